@@ -1,0 +1,7 @@
+pub mod Walks
+pub mod Potentials
+pub mod Distances
+pub mod Starts
+pub mod Evidence
+pub mod Laws
+pub mod RowOfFive
