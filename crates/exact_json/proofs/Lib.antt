@@ -1,0 +1,10 @@
+pub mod Turns
+pub mod Limits
+pub mod Printing
+pub mod Depths
+pub mod Utf8
+pub mod Runs
+pub mod TextLaws
+pub mod NumberLaws
+pub mod Sound
+pub mod Laws
