@@ -1,0 +1,12 @@
+pub mod Cuts
+pub mod Digits
+pub mod Joined
+pub mod Loops
+pub mod PrintedBytes
+pub mod PrintedLines
+pub mod PrintedNumbers
+pub mod PrintedPlaces
+pub mod PrintedTexts
+pub mod PrintedWords
+pub mod Sent
+pub mod Splits

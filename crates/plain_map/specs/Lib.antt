@@ -1,0 +1,6 @@
+pub mod Escapes
+pub mod Fields
+pub mod Lines
+pub mod Printing
+pub mod Reading
+pub mod Sending

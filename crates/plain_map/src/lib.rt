@@ -1,0 +1,24 @@
+//! Plain maps: OpenStreetMap data as text, a node or a way on a line (after OPL).
+//!
+//! Promises: what is read is the map that the bytes are, or their first fault with its line and byte;
+//! what is printed is the text of the map, and is read as the same map again. Definitions stand in
+//! `specs/`: escapes, fields, lines, reading, printing. Stands on `gh_base`.
+#![tactic(auto)]
+
+mod escapes;
+mod fault;
+mod fields;
+mod law;
+mod line;
+mod printing;
+mod reading;
+mod tags;
+#[cfg(test)]
+mod tests;
+mod texts;
+
+pub use fault::PlainFault;
+pub use gh_base::PlainKind;
+pub use law::maps_are_read_again;
+pub use printing::print_plain;
+pub use reading::read_plain;
