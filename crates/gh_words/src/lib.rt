@@ -1,0 +1,15 @@
+//! The words of the command line, read with clap.
+//!
+//! Promises: the words are refused exactly where `asked` of `specs/Words.antt` is none, and else the request is what it
+//! says: clap's own definition of one simple command, and the few refusals that this program adds. Only want of memory
+//! can hide an answer.
+#![tactic(auto)]
+
+mod request;
+mod serve;
+#[cfg(test)]
+mod tests;
+mod words;
+
+pub use request::{Request, WordsFault};
+pub use words::read_words;

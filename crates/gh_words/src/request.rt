@@ -1,0 +1,31 @@
+//! What a command line asks for, and why it is refused.
+use gh_base::Form;
+use std::alloc::AllocError;
+use thiserror::Error;
+
+/// What to do. Names are as they stand among the words.
+#[derive(Clone, Copy, Debug, PartialEq, Eq)]
+pub enum Request<'a> {
+    /// To answer queries over the map of this name, which is in this form.
+    Serve { map: &'a str, form: Form },
+}
+
+/// Why words are no request.
+#[derive(Clone, Copy, Debug, PartialEq, Eq, Error)]
+pub enum WordsFault {
+    #[error("no memory")]
+    NoMemory,
+    #[error("usage")]
+    Usage,
+}
+
+impl From<AllocError> for WordsFault {
+    ghost use Rattle.std.specs.Prelude.{◌≡◌};
+    ghost use Rattle.gh_words.specs.declared.request.WordsFault.TheVariants as fault;
+
+    ghost from_gives = { λ _ e. e ≡ fault.NoMemory };
+
+    fn from(_: AllocError) -> WordsFault {
+        WordsFault::NoMemory
+    }
+}

@@ -1,0 +1,20 @@
+//! The words of the command line.
+ghost use Rattle.std.specs.Prelude.{◌≡◌, IfOk, IsErrOf, map, string_bytes, None, Some};
+ghost use Rattle.gh_words.specs.Words.{asked, asked_by};
+
+use crate::request::{Request, WordsFault};
+use crate::serve::read_serve;
+use std::alloc::Global;
+
+/// What the words after the program's name ask for. The first word chooses the command; its options stand in any order,
+/// each exactly once, as `--map NAME` or `--map=NAME`. `Usage` comes exactly where the words ask for nothing.
+#[tactic(auto, unfolding(crate::specs::Words::asked))]
+pub fn read_words<'a>(alloc: Global, words: &'a [String]) -> Result<Request<'a>, WordsFault>
+    ensures request { IfOk result (λ r. asked (map (λ w. string_bytes w) words.entry.now) ≡ Some (asked_by r)) }
+    ensures usage { IsErrOf result WordsFault.Usage → asked (map (λ w. string_bytes w) words.entry.now) ≡ None }
+{
+    match words {
+        [first, ..] if first.as_str() == "serve" => read_serve(alloc, words),
+        _ => Err(WordsFault::Usage),
+    }
+}
