@@ -1,0 +1,2 @@
+mod Barring
+mod Uses

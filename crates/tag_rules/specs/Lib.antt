@@ -1,0 +1,4 @@
+pub mod Access
+pub mod Tables
+pub mod Tags
+pub mod Values
