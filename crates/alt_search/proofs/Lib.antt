@@ -1,0 +1,10 @@
+pub mod Listed
+pub mod Trees
+pub mod Settle
+pub mod Relax
+pub mod Underway
+pub mod Begin
+pub mod Frontier
+pub mod Finish
+pub mod Starts
+pub mod Telling

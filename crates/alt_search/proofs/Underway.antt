@@ -1,0 +1,88 @@
+-- A search between two steps.
+use Rattle.std.proofs.Common.{◌≡◌, ◌≢◌, ℕ, ◌+◌, ◌<◌, ◌≤◌, true, false, not, ◌&&◌, Option, Some, None, List, length, is_some, Contains, get_or, sym, ap, ◌∙◌, inl, inr, arith}
+use Rattle.std.specs.Prelude.{slice_set}
+use Rattle.std.proofs.lemmas.List.{get_or-set_other, get_or_read, length-set}
+use Rattle.std.proofs.lemmas.Bool.{and_parts, cases_Bool}
+use Rattle.gh_base.specs.declared.edges.Hop.{Hop}
+use Rattle.gh_base.specs.declared.edges.NodeId.{NodeId}
+use Rattle.alt_search.specs.declared.reach.Reach.{Reach}
+use Rattle.gh_base.specs.Networks.{Network}
+use Rattle.walk_rules.specs.Walks.{hops_from}
+use Rattle.search_queue.specs.Keys.{key_at}
+use Rattle.alt_search.specs.Progress.{reach_at, IsSettled, Relaxes, is_settled, IsUnderway}
+use Rattle.walk_rules.proofs.Options.{some_or_none}
+use Rattle.alt_search.proofs.Listed.{within, emptied}
+use Rattle.walk_rules.proofs.Counting.{count_below-same, count_below-one_more}
+use Rattle.alt_search.proofs.Settle.{settle_tree}
+use Rattle.alt_search.proofs.Relax.{relax_tree, relax_reached, relax_settled, relax_unsettled, relax_long}
+use Rattle.walk_rules.proofs.Options.{some_of}
+
+-- an open node is within both lists
+pub in_both : {network : Network} {bound : ℕ → Option ℕ} {start target settled : ℕ} {reached : List (Option Reach)} {keys : List (Option ℕ)} {u key : ℕ} → IsUnderway network bound start target settled reached keys → key_at keys u ≡ Some key → u < length reached
+in_both {keys} {u} {key} w k = omega (arith, within keys u key k, w.long_keys, w.long_reached)
+
+-- what a read gives
+pub read_at : (xs : List (Option Reach)) (i : ℕ) (read : Option Reach) (reach : Reach) → i < length xs → read ≡ get_or xs i read → read ≡ Some reach → reach_at xs i ≡ Some reach
+read_at xs i read reach l e s = sym (get_or_read xs i read l e None) ∙ s
+
+-- the test says what is settled
+pub settled_true : (reached : List (Option Reach)) (keys : List (Option ℕ)) (v : ℕ) → is_settled reached keys v ≡ true → (reach : Reach) × IsSettled reached keys v reach
+settled_true reached keys v h =
+    let parts = and_parts (is_some (reach_at reached v)) (not (is_some (key_at keys v))) h in
+    let here = some_of (reach_at reached v) parts.0 in
+    elim (some_or_none (key_at keys v)) [
+      | inl k ↦ absurd (let a = parts.1 in let b = ap (λ o. not (is_some o)) k.1 in cc)
+      | inr n ↦ (here.0, record { reach_is = here.1; no_key = n })
+    ]
+
+pub true_settled : (reached : List (Option Reach)) (keys : List (Option ℕ)) (v : ℕ) (reach : Reach) → IsSettled reached keys v reach → is_settled reached keys v ≡ true
+true_settled reached keys v reach s =
+    ap (λ o. is_some o && not (is_some (key_at keys v))) s.reach_is ∙ ap (λ o. true && not (is_some o)) s.no_key
+
+-- two states in which the same is settled
+pub same_settled : (xs : List (Option Reach)) (ks : List (Option ℕ)) (ys : List (Option Reach)) (ls : List (Option ℕ)) (v : ℕ) → ((r : Reach) → IsSettled xs ks v r → IsSettled ys ls v r) → ((r : Reach) → IsSettled ys ls v r → IsSettled xs ks v r) → is_settled xs ks v ≡ is_settled ys ls v
+same_settled xs ks ys ls v f g = elim (cases_Bool (is_settled xs ks v)) [
+  | inl t ↦ let s = settled_true xs ks v t in let u = true_settled ys ls v s.0 (f s.0 s.1) in cc
+  | inr e ↦ elim (cases_Bool (is_settled ys ls v)) [
+    | inl t ↦ let s = settled_true ys ls v t in let u = true_settled xs ks v s.0 (g s.0 s.1) in cc
+    | inr d ↦ cc
+  ]
+]
+
+-- a node that leaves the queue, and isn't the target
+pub settle_underway : {network : Network} {bound : ℕ → Option ℕ} {start target settled : ℕ} {reached : List (Option Reach)} {keys : List (Option ℕ)} (u key : ℕ) → IsUnderway network bound start target settled reached keys → key_at keys u ≡ Some key → u ≢ target → IsUnderway network bound start target (settled + 1) reached (slice_set keys u None)
+settle_underway {network} {bound} {start} {target} {settled} {reached} {keys} u key w k ne = record {
+  long_reached = w.long_reached;
+  long_keys = length-set keys u None ∙ w.long_keys;
+  tree = settle_tree u w.tree;
+  counted =
+      let q = w.tree.queued u key k in
+      let was : is_settled reached keys u ≡ false = elim (cases_Bool (is_settled reached keys u)) [
+        | inl t ↦ absurd (let s = settled_true reached keys u t in let n = s.1.no_key in cc)
+        | inr e ↦ e
+      ] in
+      let now = true_settled reached (slice_set keys u None) u q.0 (record { reach_is = q.2; no_key = emptied keys u }) in
+      let more = count_below-one_more (is_settled reached keys) (is_settled reached (slice_set keys u None)) (network.nodes) u (omega (arith, within keys u key k, w.long_keys)) was now
+      (λ i n. ap (λ o. is_some (reach_at reached i) && not (is_some o)) (sym (get_or-set_other keys u i None None n))) in
+      let before = w.counted in
+      omega arith;
+  target_open = λ reach s. w.target_open reach (record { reach_is = s.reach_is; no_key = sym (get_or-set_other keys u target None None (λ e. ne (sym e))) ∙ s.no_key });
+  start_known = w.start_known;
+}
+
+pub relax_underway : {network : Network} {bound : ℕ → Option ℕ} {start target settled : ℕ} {tail : NodeId} {from : Reach} {hop : Hop} {reached : List (Option Reach)} {keys : List (Option ℕ)} {reached' : List (Option Reach)} {keys' : List (Option ℕ)} → IsUnderway network bound start target settled reached keys → IsSettled reached keys tail.0 from → Contains (hops_from network tail.0) hop → hop.to.0 < network.nodes → from.depth + 1 ≤ settled → Relaxes bound tail from hop reached keys reached' keys' → IsUnderway network bound start target settled reached' keys'
+relax_underway {network} {bound} {start} {target} {settled} {tail} {from} {hop} {reached} {keys} {reached'} {keys'} w s c i d r =
+    let in_reached : hop.to.0 < length reached = let a = w.long_reached in omega arith in
+    let in_keys : hop.to.0 < length keys = let a = w.long_keys in omega arith in
+    let long = relax_long w.tree s c in_reached in_keys r in
+    record {
+      long_reached = long.0 ∙ w.long_reached;
+      long_keys = long.1 ∙ w.long_keys;
+      tree = relax_tree w.tree s c in_reached in_keys r d;
+      counted = w.counted ∙ count_below-same (is_settled reached keys) (is_settled reached' keys') (network.nodes) (λ v l. same_settled reached keys reached' keys' v (relax_settled w.tree s c in_reached in_keys r v) (relax_unsettled w.tree s c in_reached in_keys r v));
+      target_open = λ reach t. w.target_open reach (relax_unsettled w.tree s c in_reached in_keys r target reach t);
+      start_known = λ b e.
+          let old = w.start_known b e in
+          let new = relax_reached w.tree s c in_reached in_keys r start old.0 old.1 in
+          (new.0, new.1, omega arith);
+    }

@@ -1,0 +1,77 @@
+use Rattle.std.proofs.Common.{sym, subst, ◌∙◌, arith}
+use Rattle.alt_search.specs.Progress.{IsChain}
+use Rattle.alt_search.proofs.Finish.{least_at_target, none_left}
+use Rattle.alt_search.proofs.Starts.{starts_at_target, starts_at_end, starts_once, none_from_target}
+use Rattle.alt_search.proofs.Trees.{chain_of}
+use Rattle.alt_search.proofs.finding.search.Goals as goal
+
+pub returns-then-not-end-clause-none : goal.returns-then-not-end-clause-none
+returns-then-not-end-clause-none g c = λ f.
+    let d = c.in_ok-end.ensures.done in
+    (λ _. none_left d.underway (d.in_order f).ordered f (rw c.if-not-end.true at d.stops).0, λ _. tt)
+
+pub returns-then-not-end-clause-all : goal.returns-then-not-end-clause-all
+returns-then-not-end-clause-all g c = λ f.
+    let d = c.in_ok-end.ensures.done in
+    starts_at_end d.underway (d.in_order f).ordered f (rw c.if-not-end.true at d.stops).0
+
+pub returns-then-not-end-clause-once : goal.returns-then-not-end-clause-once
+returns-then-not-end-clause-once g c = starts_once c.in_ok-end.ensures.done.underway
+
+pub returns-then-not-end-clause-here : goal.returns-then-not-end-clause-here
+returns-then-not-end-clause-here g c = λ same. none_from_target c.in_ok-end.ensures.done.underway same
+
+pub walk_to-requires-clause-chain : goal.walk_to-requires-clause-chain
+walk_to-requires-clause-chain g c = subst IsChain (sym c.deref-2.ensures.value) (chain_of c.in_ok-end.ensures.done.underway.tree)
+
+pub returns-clause-walk : goal.returns-clause-walk
+returns-clause-walk g c =
+    let network = g.V.RoadView.network c.args.view.now in
+    let bound = g.P.Potential.bound c.args.potential.now in
+    let d = c.in_ok-end.ensures.done in
+    let stops = (rw c.if-not-end.false at d.stops).0 in
+    let q = d.underway.tree.queued c.args.target.0 stops.key stops.key_is in
+    let walk = c.in_ok-hops.ensures network bound c.args.start.0 c.in_ok-end.end.settled d.open_keys q.0 (rw c.deref-2.ensures.value d.underway.tree) (rw c.deref-2.ensures.value q.2) in
+    (walk.0, walk.1 ∙ sym (c.weight_at-weight.ensures q.0 (rw c.deref.ensures.value q.2)))
+
+pub returns-clause-least : goal.returns-clause-least
+returns-clause-least g c = λ f others walk.
+    let d = c.in_ok-end.ensures.done in
+    let stops = (rw c.if-not-end.false at d.stops).0 in
+    let q = d.underway.tree.queued c.args.target.0 stops.key stops.key_is in
+    let weighs = c.weight_at-weight.ensures q.0 (rw c.deref.ensures.value q.2) in
+    omega (arith, least_at_target d.underway (d.in_order f).ordered f stops q.0 q.2 others walk)
+
+pub returns-clause-none : goal.returns-clause-none
+returns-clause-none g c = λ f.
+    let network = g.V.RoadView.network c.args.view.now in
+    let bound = g.P.Potential.bound c.args.potential.now in
+    let d = c.in_ok-end.ensures.done in
+    let stops = (rw c.if-not-end.false at d.stops).0 in
+    let q = d.underway.tree.queued c.args.target.0 stops.key stops.key_is in
+    let walk = c.in_ok-hops.ensures network bound c.args.start.0 c.in_ok-end.end.settled d.open_keys q.0 (rw c.deref-2.ensures.value d.underway.tree) (rw c.deref-2.ensures.value q.2) in
+    (λ no. absurd no, λ no. no c.in_ok-hops.hops walk.0)
+
+pub returns-clause-within : goal.returns-clause-within
+returns-clause-within g c = λ f.
+    let d = c.in_ok-end.ensures.done in
+    let stops = (rw c.if-not-end.false at d.stops).0 in
+    let q = d.underway.tree.queued c.args.target.0 stops.key stops.key_is in
+    let weighs = c.weight_at-weight.ensures q.0 (rw c.deref.ensures.value q.2) in
+    rw weighs (starts_at_target d.underway (d.in_order f).ordered f stops q.0 q.2)
+
+pub returns-clause-once : goal.returns-clause-once
+returns-clause-once g c = starts_once c.in_ok-end.ensures.done.underway
+
+pub returns-clause-long : goal.returns-clause-long
+returns-clause-long g c =
+    let network = g.V.RoadView.network c.args.view.now in
+    let bound = g.P.Potential.bound c.args.potential.now in
+    let d = c.in_ok-end.ensures.done in
+    let stops = (rw c.if-not-end.false at d.stops).0 in
+    let q = d.underway.tree.queued c.args.target.0 stops.key stops.key_is in
+    let walk = c.in_ok-hops.ensures network bound c.args.start.0 c.in_ok-end.end.settled d.open_keys q.0 (rw c.deref-2.ensures.value d.underway.tree) (rw c.deref-2.ensures.value q.2) in
+    omega (arith, walk.2, (d.underway.tree.small c.args.target.0 q.0 q.2).0)
+
+pub returns-clause-here : goal.returns-clause-here
+returns-clause-here g c = λ same. none_from_target c.in_ok-end.ensures.done.underway same

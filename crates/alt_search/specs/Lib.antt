@@ -1,0 +1,4 @@
+pub mod Progress
+pub mod Findings
+pub mod Exploring
+pub mod Rows
