@@ -1,0 +1,3 @@
+pub mod Refuting
+pub mod Testing
+pub mod Labelling
