@@ -1,0 +1,4 @@
+pub mod Between
+pub mod Ends
+pub mod Joined
+pub mod Single
