@@ -1,0 +1,6 @@
+pub mod Choosing
+pub mod Counting
+pub mod Fronts
+pub mod Halving
+pub mod Joining
+pub mod Largest
