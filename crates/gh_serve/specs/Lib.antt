@@ -1,0 +1,4 @@
+pub mod CarFacts
+pub mod Cars
+pub mod Statuses
+pub mod Texts

@@ -1,0 +1,154 @@
+//! Runs in memory: the whole text of two, and how others end.
+use crate::{Status, fault_text, run};
+use gh_base::{FreeGate, MemFiles, MemSink, MemSource};
+use std::alloc::{AllocError, Global};
+
+/// Three towers in a row, 1111949 mm apart, on roads where cars go 60 km/h.
+const MAP: &str =
+    "n1 y0 x0\nn2 y0 x0.01\nn3 y0 x0.02\nw10 Thighway=secondary Nn1,n2\nw11 Thighway=secondary Nn2,n3\n";
+
+const WORDS: [&str; 5] = ["serve", "--map", "m", "--form", "plain"];
+
+const NONE: [u64; 0] = [];
+
+const FIRST: [u64; 1] = [1];
+
+/// What a run is given, and which calls of the outside fail.
+#[derive(Clone, Copy)]
+struct Case<'a> {
+    words: &'a [&'a str],
+    map: &'a [u8],
+    map_fails: &'a [u64],
+    script: &'a [u8],
+    script_fails: &'a [u64],
+    sink_fails: &'a [u64],
+}
+
+const fn plain_case<'a>(map: &'a [u8], script: &'a [u8]) -> Case<'a> {
+    Case {
+        words: &WORDS,
+        map,
+        map_fails: &NONE,
+        script,
+        script_fails: &NONE,
+        sink_fails: &NONE,
+    }
+}
+
+fn owned(alloc: Global, words: &[&str]) -> Result<Vec<String>, AllocError> {
+    let mut list = Vec::new(alloc);
+    for word in words {
+        list.push(String::from_str(alloc, word)?)?;
+    }
+    Ok(list)
+}
+
+/// How a run ended, in the words that a user reads, and what the sink holds.
+fn outcome(alloc: Global, case: &Case) -> Result<(String, Vec<u8>), AllocError> {
+    let words = owned(alloc, case.words)?;
+    let mut files = MemFiles::new("m", case.map, &NONE, 5, case.map_fails);
+    let mut script = MemSource::new(case.script, 4096, case.script_fails);
+    let mut sink = MemSink::new(alloc, 3, case.sink_fails);
+    let status = run(
+        alloc,
+        words.as_slice(),
+        &mut files,
+        &mut script,
+        &mut sink,
+        &FreeGate,
+    );
+    let text = match &status {
+        Status::Done => String::from_str(alloc, "done")?,
+        other => match fault_text(alloc, other) {
+            Ok(text) => String::from_str(alloc, text.as_str())?,
+            Err(_) => return Err(AllocError),
+        },
+    };
+    let mut held = Vec::new(alloc);
+    held.extend_from_slice(sink.bytes())?;
+    Ok((text, held))
+}
+
+#[test]
+fn a_route_is_printed_and_an_empty_script_has_a_journal(rt: HostRuntime) -> Result<(), AllocError> {
+    let script = "actor a\na route n1 n3\na route n1 n9\n";
+    let (text, held) = outcome(rt.alloc(), &plain_case(MAP.as_bytes(), script.as_bytes()))?;
+    assert_eq!(rt; text.as_str(), "done");
+    let wanted = "a 1 0 route 133434 2223898 2 0+ 1+\na 2 0 nonode 9\njournal 0\n";
+    assert_eq!(rt; held.as_slice(), wanted.as_bytes());
+    let (text, held) = outcome(rt.alloc(), &plain_case(MAP.as_bytes(), b""))?;
+    assert_eq!(rt; text.as_str(), "done");
+    assert_eq!(rt; held.as_slice(), b"journal 0\n".as_slice());
+    Ok(())
+}
+
+#[test]
+fn each_refusal_has_its_text_and_writes_nothing(rt: HostRuntime) -> Result<(), AllocError> {
+    let alloc = rt.alloc();
+    let map = MAP.as_bytes();
+    let cases = [
+        (
+            Case {
+                words: &["serve"],
+                ..plain_case(map, b"")
+            },
+            "gh: usage",
+        ),
+        (
+            Case {
+                words: &["serve", "--map", "x", "--form", "plain"],
+                ..plain_case(map, b"")
+            },
+            "gh: cannot open the map",
+        ),
+        (
+            Case {
+                map_fails: &FIRST,
+                ..plain_case(map, b"")
+            },
+            "gh: cannot read the map",
+        ),
+        (
+            Case {
+                script_fails: &FIRST,
+                ..plain_case(map, b"")
+            },
+            "gh: cannot read the script",
+        ),
+        (
+            plain_case(b"n1 y0\n", b""),
+            "gh: map line 1 byte 5: Missing",
+        ),
+        (
+            plain_case(b"n1 y0 x0\nw10 Thighway=service Nn1,n9\n", b""),
+            "gh: map: MissingNode way 10 node 9",
+        ),
+        (
+            plain_case(map, b"actor a\na fly\n"),
+            "gh: script line 2 byte 0: Word",
+        ),
+        (
+            Case {
+                sink_fails: &FIRST,
+                ..plain_case(map, b"")
+            },
+            "gh: cannot write",
+        ),
+    ];
+    for (case, wanted) in &cases {
+        let (text, held) = outcome(alloc, case)?;
+        assert_eq!(rt; text.as_str(), *wanted);
+        assert_eq!(rt; held.len(), 0, "{wanted}");
+    }
+    Ok(())
+}
+
+#[test]
+fn a_script_of_one_byte_too_many_is_too_large(rt: HostRuntime) -> Result<(), AllocError> {
+    let alloc = rt.alloc();
+    let newlines = vec![in alloc; b'\n'; 16_777_217]?;
+    let (text, held) = outcome(alloc, &plain_case(MAP.as_bytes(), newlines.as_slice()))?;
+    assert_eq!(rt; text.as_str(), "gh: script bytes over 16777216");
+    assert_eq!(rt; held.len(), 0);
+    Ok(())
+}
