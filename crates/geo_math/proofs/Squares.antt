@@ -60,3 +60,6 @@ diagonal_small r e n he hn below =
     ]
     in
     div_below (r * 111194927) 10000000000 68719476736 (omega arith) (omega arith)
+
+pub area_fits : (a : ℕ) → a ≤ 12960000000000000000 → a * a < 340282366920938463463374607431768211456
+area_fits a h = let whole = mul-le a a 12960000000000000000 12960000000000000000 h h in omega arith

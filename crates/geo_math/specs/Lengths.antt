@@ -1,5 +1,5 @@
 -- Lengths on the earth, in whole numbers: coordinates in 1e-7 degree, lengths in mm. The rule is this project's own.
-use Rattle.std.specs.Prelude.{ℕ, zero, suc, ◌+◌, ◌-◌, ◌*◌, ◌/◌, ◌≤◌, ◌<◌, nat_le, ℤ, pos, neg_ℤ, ◌+ℤ◌, ◌-ℤ◌, int_lt, if◌then◌else◌}
+use Rattle.std.specs.Prelude.{ℕ, zero, suc, ◌+◌, ◌-◌, ◌*◌, ◌/◌, ◌≤◌, ◌<◌, nat_le, ℤ, pos, neg_ℤ, ◌+ℤ◌, ◌-ℤ◌, int_lt, if◌then◌else◌, List, [], ◌∷◌}
 use Rattle.std.specs.Int.{int_div_euclid}
 use Rattle.std.specs.Int.RustNames.{unsigned_abs}
 use Rattle.gh_base.specs.declared.map.Point.{Point}
@@ -38,3 +38,9 @@ diagonal east north = root ((east * east + north * north) * 1000000) * 111194927
 unfoldable pub segment_length : Point → Point → ℕ
 segment_length a b =
     diagonal (unsigned_abs (scaled (b.lon -ℤ a.lon) (middle a.lat b.lat))) (unsigned_abs (b.lat -ℤ a.lat))
+
+-- the length of a line over points: the sum of the lengths of the segments between neighbours, in mm
+abbrev pub line_length : List Point → ℕ
+line_length [] = 0
+line_length (a ∷ []) = 0
+line_length (a ∷ b ∷ points) = segment_length a b + line_length (b ∷ points)

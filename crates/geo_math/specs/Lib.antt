@@ -1,1 +1,2 @@
+pub mod Foot
 pub mod Lengths

@@ -32,7 +32,7 @@ fn scaled_size(difference: u64, latitude: u64) -> u64
 
 /// A difference of longitudes at a latitude, as long as the same difference of latitudes. It keeps its sign.
 #[tactic(auto, unfolding(crate::specs::Lengths::scaled))]
-fn scaled(difference: i64, latitude: i64) -> i64
+pub(crate) fn scaled(difference: i64, latitude: i64) -> i64
     requires difference { unsigned_abs difference ≤ 3600000000 }
     requires latitude { unsigned_abs latitude ≤ 900000000 }
     ensures value { result ≡ scaled difference latitude }
