@@ -1,0 +1,10 @@
+pub mod File
+pub mod Far
+pub mod Fronts
+pub mod Joins
+pub mod Varints
+pub mod Kept
+pub mod Rounds
+pub mod Fields
+pub mod Tags
+pub mod Texts

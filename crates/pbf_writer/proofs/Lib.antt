@@ -1,0 +1,16 @@
+pub mod BlocksRead
+pub mod Counts
+pub mod Ends
+pub mod FieldsRead
+pub mod FilesRead
+pub mod FitWays
+pub mod Fits
+pub mod Grown
+pub mod Joined
+pub mod ListsRead
+pub mod MapsRead
+pub mod NodesRead
+pub mod Rounds
+pub mod Sent
+pub mod Tables
+pub mod WaysRead
