@@ -1,0 +1,6 @@
+mod Bits
+mod Boxes
+mod Founds
+mod Lines
+mod Orders
+mod Sides

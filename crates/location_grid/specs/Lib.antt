@@ -1,0 +1,6 @@
+pub mod Bits
+pub mod Boxes
+pub mod Founds
+pub mod Grids
+pub mod Nearest
+pub mod Snaps
