@@ -1,0 +1,7 @@
+use Rattle.std.proofs.Common.{◌≡◌, drop}
+use Rattle.std.specs.List.{list_all}
+use Rattle.model_parser.specs.Outlines.{is_polygon}
+use Rattle.model_parser.proofs.outlines.are_polygons.Given as goal
+
+abbrev pub invariant-loop-value : goal.invariant-loop-value
+invariant-loop-value l = list_all is_polygon (drop l.value-index l.values) ≡ list_all is_polygon l.values
