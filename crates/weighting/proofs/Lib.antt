@@ -1,0 +1,4 @@
+pub mod Falls
+mod Made
+mod Stored
+pub mod Turned

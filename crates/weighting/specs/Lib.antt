@@ -1,0 +1,5 @@
+pub mod Rules
+pub mod Weights
+pub mod Roads
+pub mod RoadFacts
+pub mod SlowRoads
