@@ -1,0 +1,9 @@
+pub mod Graining
+pub mod Fitting
+pub mod Feasible
+pub mod Jobbing
+pub mod Spread
+pub mod Keeping
+pub mod Prepared
+pub mod Unique
+pub mod Foremost

@@ -1,0 +1,99 @@
+//! Labels as they are kept.
+ghost use Rattle.std.specs.Prelude.{◌≡◌, ◌<◌, ◌≤◌, ◌^◌, [], ◌∷◌, ◌++◌, length, slice_index, OnOk, OnErr};
+ghost use Rattle.landmark_prep.specs.Packing.{packed, unpacked, packed_at};
+
+use gh_base::{NoMemory, NodeId, Sequence};
+use std::alloc::Global;
+use std::marker::Model;
+
+/// The number of grains that stands for no label.
+const NO_LABEL: u16 = 65535;
+
+/// The greatest number of grains. A distance of more is cut to it.
+const MOST_GRAINS: u64 = 65534;
+
+/// The labels of a landmark, as numbers of grains by node: 65535 is none.
+#[derive(Drop)]
+pub struct PackedLabels {
+    pub from: Sequence<u16>,
+    pub to: Sequence<u16>,
+}
+
+/// The labels of landmarks, in their order. Contracts see it as that list.
+#[derive(Drop)]
+pub struct LabelTable {
+    rows: Vec<PackedLabels>,
+}
+
+impl Model for LabelTable {
+    ghost use Rattle.std.specs.Prelude.{List};
+    ghost use Rattle.landmark_prep.specs.declared.labels.PackedLabels.{PackedLabels};
+
+    ghost Value = { List PackedLabels };
+
+    ghost view = { λ table. table.rows.items };
+}
+
+impl LabelTable {
+    /// The empty table. It takes no memory.
+    pub fn new(alloc: Global) -> LabelTable
+        ensures { result ≡ [] }
+    {
+        LabelTable {
+            rows: Vec::new(alloc),
+        }
+    }
+
+    /// Appends the labels of one more landmark: from it to each node, and from each node to it. After
+    /// `NoMemory` the table is as before.
+    pub fn push(&mut self, from: Vec<u16>, to: Vec<u16>) -> Result<(), NoMemory>
+        ensures ok { OnOk result (self.new ≡ self.old ++ record { from = from.items; to = to.items } ∷ []) }
+        ensures err { OnErr result (self.new ≡ self.old) }
+    {
+        self.push_labels(PackedLabels {
+            from: Sequence::from_vec(from),
+            to: Sequence::from_vec(to),
+        })
+    }
+
+    /// The same, of labels that are together.
+    pub(crate) fn push_labels(&mut self, labels: PackedLabels) -> Result<(), NoMemory>
+        ensures ok { OnOk result (self.new ≡ self.old ++ labels ∷ []) }
+        ensures err { OnErr result (self.new ≡ self.old) }
+    {
+        self.rows.push(labels).map_err(|_| NoMemory)
+    }
+
+    /// The labels of the landmark at a place.
+    pub(crate) fn at(&self, landmark: u32) -> &PackedLabels
+        requires { landmark < length self.now }
+        ensures { result.now ≡ packed_at self.now landmark }
+    {
+        &self.rows[landmark as usize]
+    }
+}
+
+/// A label as a number of grains.
+pub fn pack(label: Option<u64>, grain: u64) -> u16
+    requires { 0 < grain }
+    ensures { result ≡ packed grain label }
+{
+    match label {
+        None => NO_LABEL,
+        Some(label) => (label / grain).min(MOST_GRAINS) as u16,
+    }
+}
+
+/// The label of a node in a row.
+pub fn unpack(row: &Sequence<u16>, node: NodeId, grain: u64) -> Option<u64>
+    requires node { node.0 < length row.now }
+    requires coarse { grain ≤ 2 ^ 46 }
+    ensures { result ≡ unpacked grain (slice_index row.now node.0) }
+{
+    let number = *row.get(node.0 as usize);
+    if number == NO_LABEL {
+        None
+    } else {
+        Some(grain * u64::from(number))
+    }
+}

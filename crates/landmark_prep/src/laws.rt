@@ -1,0 +1,19 @@
+//! The laws. Each function does nothing: what it ensures is the law.
+ghost use Rattle.landmark_prep.specs.Laws.{PreparationsAreOne, LandmarksAreTheCount, NodesAreLabelled, PreparationsFit, ActiveLandmarksAreOne};
+
+/// A network has one preparation, which has labels for each node.
+pub fn preparations_are_one()
+    ensures one { PreparationsAreOne }
+    ensures count { LandmarksAreTheCount }
+    ensures nodes { NodesAreLabelled }
+{}
+
+/// The labels of a preparation fit its network, so its potential is feasible.
+pub fn preparations_fit()
+    ensures { PreparationsFit }
+{}
+
+/// The active landmarks are determined.
+pub fn active_landmarks_are_one()
+    ensures { ActiveLandmarksAreOne }
+{}

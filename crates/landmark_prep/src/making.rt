@@ -1,0 +1,78 @@
+//! How a preparation is made.
+ghost use Rattle.std.specs.Prelude.{◌≡◌, ◌↔◌, ℕ, ◌^◌, ◌<◌, ◌≤◌, IfOk};
+ghost use Rattle.walk_rules.specs.Walks.{AreTurned, IsLeastWeight};
+ghost use Rattle.landmark_choice.specs.Parts.{IsBarred};
+ghost use Rattle.landmark_prep.specs.Preparations.{grain_of, IsPrepOf};
+ghost use Rattle.landmark_prep.specs.Answers.{IfPrep, IsNoLandmark};
+
+use crate::preparation::{Prep, of_parts};
+use crate::spreading::spread_all;
+use gh_base::{FreshView, LimitList, NoMemory, NodeId};
+use label_spread::labels_from;
+use landmark_choice::{choose, largest_part};
+use std::alloc::Global;
+use std::thread::Threads;
+
+/// The greatest distance in ms that counts for a grain.
+const FARTHEST_MS: u64 = 1 << 60;
+
+/// How many grains that distance has at least, so that twice as much fits 16 bits.
+const LEAST_GRAINS: u64 = 32767;
+
+/// What was made.
+#[derive(Drop)]
+pub enum Made {
+    Prep(Prep),
+    /// No hop has a weight, so there is nowhere to place a landmark.
+    NoLandmark,
+}
+
+/// The preparation of a network with at most `count` landmarks (1 to 16), its labels spread on threads.
+///
+/// `back` is `out` turned round. `profile` and `snapshot` say what the weights are those of, and are kept.
+///
+/// On three nodes in a row, each edge 66717 ms both ways, with count 2: the landmarks are the nodes 2 and 0,
+/// the greatest distance from node 0 is 133434, so the grain is 5, and the label of node 1 is 66715.
+pub fn make_prep<R: Threads + Sync, V: FreshView + Sync + Drop, W: FreshView + Sync + Drop>(
+    rt: &R,
+    alloc: Global,
+    out: &V,
+    back: &W,
+    profile: u32,
+    snapshot: LimitList,
+    count: u32,
+) -> Result<Made, NoMemory>
+    requires turned { AreTurned (V.network out.now) (W.network back.now) }
+    requires some { 1 ≤ count }
+    requires few { count ≤ 16 }
+    ensures prep { IfOk result (λ made. IfPrep made (λ prep. IsPrepOf (V.network out.now) count prep)) }
+    ensures profile { IfOk result (λ made. IfPrep made (λ prep. prep.profile ≡ profile)) }
+    ensures snapshot { IfOk result (λ made. IfPrep made (λ prep. prep.snapshot ≡ snapshot)) }
+    ensures none { IfOk result (λ made. IsNoLandmark made ↔ ((node : ℕ) → node < (V.network out.now).nodes → IsBarred (V.network out.now) node)) }
+{
+    let Some(start) = largest_part(alloc, out, back)? else {
+        return Ok(Made::NoLandmark)
+    };
+    let landmarks = choose(alloc, out, start, count)?;
+    let grain = grain_for(alloc, out, start, *landmarks.get(0))?;
+    let labels = spread_all(rt, alloc, out, back, grain, landmarks.as_slice())?;
+    Ok(Made::Prep(of_parts(profile, snapshot, landmarks, grain, labels)))
+}
+
+/// The grain for the distance from the start to the node that is farthest from it.
+fn grain_for<V: FreshView + Drop>(
+    alloc: Global,
+    out: &V,
+    start: NodeId,
+    far: NodeId,
+) -> Result<u64, NoMemory>
+    requires start { start.0 < (V.network out.now).nodes }
+    requires far { far.0 < (V.network out.now).nodes }
+    ensures is { IfOk result (λ grain. (distance : ℕ) → IsLeastWeight (V.network out.now) start.0 far.0 distance → grain ≡ grain_of distance) }
+    ensures fine { IfOk result (λ grain. 1 ≤ grain) }
+    ensures coarse { IfOk result (λ grain. grain ≤ 2 ^ 46) }
+{
+    let labels = labels_from(alloc, out, start)?;
+    let distance = labels.get(far.0 as usize).unwrap_or(0);
+    Ok(distance.min(FARTHEST_MS) / LEAST_GRAINS + 1)
+}
