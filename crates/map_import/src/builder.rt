@@ -59,7 +59,11 @@ impl Builder {
     }
 
     /// The tower of a node, which is numbered where it isn't yet.
-    fn tower(&mut self, places: &HashMap<i64, Point>, id: i64) -> Result<NodeId, ImportFault>
+    pub(crate) fn tower(
+        &mut self,
+        places: &HashMap<i64, Point>,
+        id: i64,
+    ) -> Result<NodeId, ImportFault>
         requires earth { (id : ℤ) → IsOnEarth (place_at (get int_eq places.now) id) }
         requires built { IsBuilt (get int_eq places.now) self.old.graph.lists self.old.ids (get int_eq self.old.numbers) }
         ensures built { OnOk result (IsBuilt (get int_eq places.now) self.new.graph.lists self.new.ids (get int_eq self.new.numbers)) }

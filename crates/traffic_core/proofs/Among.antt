@@ -1,0 +1,127 @@
+-- What a search says of the walks of a network, said of walks that are the same ones.
+use Rattle.std.specs.Prelude.{◌↔◌}
+use Rattle.std.proofs.Common.{◌≡◌, ℕ, ◌<◌, ◌≤◌, Bool, Option, None, List, [], ◌∷◌, length, take, Result, IfOk, refl, sym, subst, ap, arith}
+use Rattle.std.proofs.lemmas.Result.{IfOk-weaker}
+use Rattle.std.proofs.lemmas.List.{get_or-take, length-take-le}
+use Rattle.gh_base.specs.declared.faults.NoMemory.{NoMemory}
+use Rattle.gh_base.specs.declared.edges.Hop.{Hop}
+use Rattle.gh_base.specs.declared.query.RouteAnswer.{RouteAnswer}
+use Rattle.gh_base.specs.declared.query.RouteAnswer.TheVariants.{NoNode, NoSnap, NoRoute, WeightOverflow, Walk, Labelled}
+use Rattle.gh_base.specs.Networks.{Network}
+use Rattle.walk_rules.specs.Walks.{IsWalk, IsLeastWeight, IsAtMostEachWalk}
+use Rattle.walk_rules.specs.Potentials.{IsFeasible, flat}
+use Rattle.walk_rules.specs.Distances.{label_at}
+use Rattle.walk_rules.specs.Evidence.{IsEvidence, IsEvidenceLabel}
+use Rattle.query_graph.specs.declared.ends.Leave.{Leave}
+use Rattle.query_graph.specs.declared.ends.Reach.{Reach}
+use Rattle.traffic_core.specs.Trips.{Trip, IsWalkOf, trip_network, trip_start, trip_target}
+use Rattle.traffic_core.specs.Answers.{Plan, IsAtMostEach, IsLeastOf, AreRightLabels, IsRightAmong, plan_of, greatest_weight}
+
+-- a bound of nothing is feasible
+pub flat_feasible : (network : Network) (target : ℕ) → IsFeasible network flat target
+flat_feasible network target = record { at_target = refl; along = λ node hop c s y e. (0, refl, omega arith) }
+
+module _ (P Q : List Hop → Type 0) (same : (hops : List Hop) → P hops ↔ Q hops) where
+  least_same : (weight : ℕ) → IsAtMostEach P weight → IsAtMostEach Q weight
+  least_same weight least = λ others q. least others ((same others).1 q)
+
+  least_of_same : (weight : ℕ) → IsLeastOf P weight → IsLeastOf Q weight
+  least_of_same weight l = record { hops = l.hops; walk = (same l.hops).0 l.walk; weight_is = l.weight_is; least = least_same weight l.least }
+
+  pub among_same : (plan : Plan) (mm_of : List Hop → ℕ) (towers : ℕ) (labels : Bool) (answer : RouteAnswer) → IsRightAmong P plan mm_of towers labels answer → IsRightAmong Q plan mm_of towers labels answer
+  among_same plan mm_of towers labels (NoNode id) h = h
+  among_same plan mm_of towers labels (NoSnap point) h = h
+  among_same plan mm_of towers labels (NoRoute settled) h = (λ hops q. h.0 hops ((same hops).1 q), h.1)
+  among_same plan mm_of towers labels (WeightOverflow weight) h = (least_of_same weight h.0, h.1)
+  among_same plan mm_of towers labels (Walk weight mm settled hops) h = (
+    h.0,
+    record {
+      walk = (same hops).0 h.1.walk;
+      weight_is = h.1.weight_is;
+      least = least_same weight h.1.least;
+      empty = h.1.empty;
+      within = h.1.within;
+      mm_is = h.1.mm_is;
+      starts = h.1.starts;
+    },
+  )
+  among_same plan mm_of towers labels (Labelled weight list) h = (
+    h.0,
+    record {
+      least = least_of_same weight h.1.least;
+      within = h.1.within;
+      count = h.1.count;
+      each = h.1.each;
+      all = h.1.all;
+      same = h.1.same;
+      evidence = h.1.evidence;
+    },
+  )
+
+-- a plan without bounds
+abbrev pub flat_plan : Network → ℕ → ℕ → Plan
+flat_plan network start target = record { network = network; start = start; target = target; bound = flat }
+
+abbrev pub IsWalkIn : Network → ℕ → ℕ → List Hop → Type 0
+IsWalkIn network start target hops = IsWalk network start hops target
+
+-- the labels of the towers, of those that a certificate has for all nodes
+cut_labels : (network : Network) (start target towers weight : ℕ) (full list : List (Option ℕ)) → towers ≤ network.nodes → list ≡ take towers full → length full ≡ network.nodes
+    → IsLeastOf (IsWalkIn network start target) weight → weight ≤ greatest_weight
+    → ((node : ℕ) → node < network.nodes → IsEvidenceLabel network flat start weight node (label_at full node))
+    → IsEvidence network (label_at full) start target weight
+    → AreRightLabels (IsWalkIn network start target) (flat_plan network start target) towers weight list
+cut_labels network start target towers weight full list few cut count least within each evidence =
+    let same : (node : ℕ) → node < towers → label_at full node ≡ label_at list node = λ node h. rw cut (sym (get_or-take towers full node None h)) in
+    record {
+      least = least;
+      within = within;
+      count = rw cut (length-take-le towers full (omega arith));
+      each = λ node h. subst (λ (l : Option ℕ). IsEvidenceLabel network flat start weight node l) (same node h) (each node (omega arith));
+      all = label_at full;
+      same = same;
+      evidence = evidence;
+    }
+
+-- a least weight, in other words
+least_weight : (network : Network) (start target weight : ℕ) → IsLeastOf (IsWalkIn network start target) weight → IsLeastWeight network start target weight
+least_weight network start target weight l =
+    record { hops = l.hops; is_least = record { walk = l.walk; least = subst (λ (w : ℕ). IsAtMostEachWalk network start target w) (sym l.weight_is) l.least }; weight_is = l.weight_is }
+
+pub labels_right : (network after : Network) → after ≡ network → (start target towers weight : ℕ) (full list : List (Option ℕ)) → towers ≤ network.nodes → list ≡ take towers full → length full ≡ after.nodes
+    → IsLeastOf (IsWalkIn network start target) weight → weight ≤ greatest_weight
+    → (IsFeasible after flat target → IsLeastWeight after start target weight → (node : ℕ) → node < after.nodes → IsEvidenceLabel after flat start weight node (label_at full node))
+    → (IsFeasible after flat target → IsLeastWeight after start target weight → IsEvidence after (label_at full) start target weight)
+    → AreRightLabels (IsWalkIn network start target) (flat_plan network start target) towers weight list
+labels_right network after same start target towers weight full list few cut count least within each evidence =
+    let here : IsLeastOf (IsWalkIn after start target) weight = subst (λ (n : Network). IsLeastOf (IsWalkIn n start target) weight) (sym same) least in
+    let told = least_weight after start target weight here in
+    subst (λ (n : Network). AreRightLabels (IsWalkIn n start target) (flat_plan n start target) towers weight list) same
+    (cut_labels after start target towers weight full list (subst (λ (n : Network). towers ≤ n.nodes) (sym same) few) cut count here within
+    (each (flat_feasible after target) told) (evidence (flat_feasible after target) told))
+
+abbrev pub trip_of : Network → Leave → Reach → List (Option Hop) → Trip
+trip_of base from to direct = record { base = base; from = from; to = to; direct = direct }
+
+pub trip_is : (b c : Network) (f g : Leave) (r s : Reach) (d e : List (Option Hop)) → b ≡ c → f ≡ g → r ≡ s → d ≡ e
+    → trip_of b f r d ≡ trip_of c g s e
+trip_is b c f g r s d e p q u v = cc
+
+-- what is right over the network of a trip is right of its walks
+module _ (built trip : Trip) (is : built ≡ trip) (network : Network) (start target : ℕ) (n : network ≡ trip_network built) (s : start ≡ trip_start trip) (t : target ≡ trip_target trip) (walks : (hops : List Hop) → IsWalk network (trip_start built) hops (trip_target built) ↔ IsWalkOf built hops) (mm_of : List Hop → ℕ) (towers : ℕ) (labels : Bool) where
+  same : (hops : List Hop) → IsWalkIn network start target hops ↔ IsWalkOf trip hops
+  same hops = rw (s, t) (subst (λ (x : Trip). IsWalk network (trip_start x) hops (trip_target x) ↔ IsWalkOf x hops) is (walks hops))
+
+  plan_is : flat_plan network start target ≡ plan_of trip flat
+  plan_is = rw (n, s, t) (ap (λ (x : Trip). flat_plan (trip_network x) (trip_start trip) (trip_target trip)) is)
+
+  pub right_trip : (result : Result RouteAnswer NoMemory) → IfOk result (IsRightAmong (IsWalkIn network start target) (flat_plan network start target) mm_of towers labels) → IfOk result (IsRightAmong (IsWalkOf trip) (plan_of trip flat) mm_of towers labels)
+  right_trip result =
+      IfOk-weaker result _ _ (λ answer h.
+      subst (λ (plan : Plan). IsRightAmong (IsWalkOf trip) plan mm_of towers labels answer) plan_is
+      (among_same (IsWalkIn network start target) (IsWalkOf trip) same (flat_plan network start target) mm_of towers labels answer h))
+
+-- a list of no length is empty
+pub none_long : (hops : List Hop) (settled : ℕ) → length hops ≤ settled → settled ≡ 0 → hops ≡ []
+none_long [] settled h e = refl
+none_long (hop ∷ hops) settled h e = absurd (omega arith)

@@ -1,0 +1,6 @@
+mod Ends
+mod Among
+mod Index
+mod Usables
+mod Apart
+mod Once

@@ -1,0 +1,27 @@
+//! Routes from place to place: what queries run over, and a least walk for each, or why there is none to give.
+//!
+//! Promises: an answer is right by `specs/Answers.antt` at any limits of the directed edges: a walk is least among
+//! all walks between its two places, no route is answered exactly where there is none, and labels show that no walk
+//! weighs less. Where places lie stands in `specs/Places.antt`, and which walks there are in `specs/Trips.antt`.
+//! Stands on `weighting` for weights, on `location_grid` for the nearest edge, on `query_graph` for pieces of edges,
+//! on `alt_search` for least walks and on `label_certificate` for labels.
+#![tactic(auto)]
+
+mod ground;
+mod laws;
+mod lengths;
+mod pieces;
+mod query;
+mod routing;
+mod spot;
+#[cfg(test)]
+mod tests;
+mod towers;
+mod usable;
+
+pub use gh_base::{Place, RouteAnswer};
+pub use ground::Ground;
+pub use laws::{answers_agree, lengths_are_those_of_pieces};
+pub use query::RouteQuery;
+pub use routing::route;
+pub use spot::Spot;

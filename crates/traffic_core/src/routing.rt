@@ -1,0 +1,179 @@
+//! Routes: least walks between two places.
+ghost use Rattle.std.specs.Prelude.{◌≡◌, ◌<◌, ◌≤◌, List, length, take, IfOk};
+ghost use Rattle.gh_base.specs.declared.edges.Hop.{Hop};
+ghost use Rattle.walk_rules.specs.Walks.{IsWalk};
+ghost use Rattle.walk_rules.specs.Potentials.{flat};
+ghost use Rattle.weighting.specs.Roads.{AreOver};
+ghost use Rattle.traffic_core.specs.Places.{IsPlace};
+ghost use Rattle.traffic_core.specs.Spots.{IsOn};
+ghost use Rattle.traffic_core.specs.Trips.{trip_by, mm_between, IsWalkOf, start_for, target_for};
+ghost use Rattle.traffic_core.specs.Answers as spec;
+
+use crate::ground::Ground;
+use crate::lengths::walk_mm;
+use crate::pieces::Pieces;
+use crate::query::RouteQuery;
+use crate::spot::Spot;
+use alt_search::{FlatPotential, Found, search};
+use base_graph::BaseGraph;
+use gh_base::{LabelList, Limits, NoMemory, NodeId, Place, RoadView, RouteAnswer};
+use label_certificate::labels_of;
+use query_graph::QueryView;
+use std::alloc::Global;
+use weighting::{Side, WeightView, Weighting};
+
+/// The greatest weight of a route that is answered, in ms: whole numbers up to it are exact wherever they are read.
+const GREATEST_WEIGHT: u128 = 9_007_199_254_740_991;
+
+/// Two spots, and the nodes that stand for them in a view.
+#[derive(Clone, Copy)]
+struct Ends {
+    from: Spot,
+    to: Spot,
+    start: NodeId,
+    target: NodeId,
+}
+
+/// The labels of so many towers, without those of the nodes behind them.
+fn front_of(labels: LabelList, towers: u32) -> LabelList
+    requires { towers ≤ length labels }
+    ensures { result ≡ take towers labels }
+{
+    let mut list = labels.into_vec();
+    list.truncate(towers as usize);
+    LabelList::from_vec(list)
+}
+
+/// The answer to a search from end to end: a least walk, or labels that show that no walk weighs less.
+fn answer_over<V: RoadView>(
+    alloc: Global,
+    graph: &BaseGraph,
+    view: &mut V,
+    ends: Ends,
+    labels: bool,
+) -> Result<RouteAnswer, NoMemory>
+    requires from { IsOn graph.now.lists ends.from }
+    requires to { IsOn graph.now.lists ends.to }
+    requires start { ends.start.0 < (V.network view.old).nodes }
+    requires target { ends.target.0 < (V.network view.old).nodes }
+    requires starts { V.starts view.old ≡ 0 }
+    requires towers { length graph.now.lists.places ≤ (V.network view.old).nodes }
+    requires over { (hops : List Hop) → IsWalk (V.network view.old) ends.start.0 hops ends.target.0 → AreOver graph.now.lists hops }
+    ensures { IfOk result (spec.IsRightAmong (λ hops. IsWalk (V.network view.old) ends.start.0 hops ends.target.0)
+        (record { network = V.network view.old; start = ends.start.0; target = ends.target.0; bound = flat })
+        (mm_between graph.now.lists ends.from ends.to) (length graph.now.lists.places) labels) }
+{
+    match search(alloc, view, &FlatPotential, ends.start, ends.target)? {
+        Found::NoWalk { settled } => Ok(RouteAnswer::NoRoute { settled }),
+        Found::Walk {
+            hops,
+            weight,
+            settled,
+        } => {
+            if weight > GREATEST_WEIGHT {
+                return Ok(RouteAnswer::WeightOverflow { weight });
+            }
+            let weight = weight as u64;
+            if labels {
+                let list = labels_of(alloc, view, &FlatPotential, ends.start, ends.target, weight)?;
+                return Ok(RouteAnswer::Labelled {
+                    weight,
+                    labels: front_of(list, graph.node_count()),
+                });
+            }
+            let mm = walk_mm(graph, ends.from, ends.to, hops.as_slice());
+            Ok(RouteAnswer::Walk {
+                weight,
+                mm,
+                settled,
+                hops,
+            })
+        }
+    }
+}
+
+/// The node that stands for the start, where the towers are so many.
+fn start_node(from: Spot, towers: u32) -> NodeId
+    ensures { result.0 ≡ start_for from towers }
+{
+    match from {
+        Spot::Tower(node) => node,
+        Spot::Inside { edge: _, mm: _ } => NodeId(towers),
+    }
+}
+
+/// The node that stands for the target.
+fn target_node(to: Spot, towers: u32) -> NodeId
+    requires { towers ≤ 2000000 }
+    ensures { result.0 ≡ target_for to towers }
+{
+    match to {
+        Spot::Tower(node) => node,
+        Spot::Inside { edge: _, mm: _ } => NodeId(towers + 1),
+    }
+}
+
+/// The answer for two spots.
+fn answer_between<L: Limits>(
+    alloc: Global,
+    pieces: &Pieces<'_, L>,
+    from: Spot,
+    to: Spot,
+    labels: bool,
+) -> Result<RouteAnswer, NoMemory>
+    requires from { IsOn pieces.now.graph.now.lists from }
+    requires to { IsOn pieces.now.graph.now.lists to }
+    ensures { let trip = trip_by pieces.now.weighting.now (L.limit_of pieces.now.limits.now) pieces.now.graph.now.lists from to in
+        IfOk result (spec.IsRightAmong (IsWalkOf trip) (spec.plan_of trip flat) (mm_between pieces.now.graph.now.lists from to) (length pieces.now.graph.now.lists.places) labels) }
+{
+    let graph = pieces.graph;
+    let towers = graph.node_count();
+    let roads = WeightView::new(graph, pieces.limits, pieces.weighting, Side::Out);
+    let mut view = QueryView::new(
+        roads,
+        pieces.leave(from),
+        pieces.reach(to),
+        pieces.direct(from, to),
+    );
+    let ends = Ends {
+        from,
+        to,
+        start: start_node(from, towers),
+        target: target_node(to, towers),
+    };
+    answer_over(alloc, graph, &mut view, ends, labels)
+}
+
+/// The answer for a place, the first or the second, that isn't on the roads.
+fn missing(place: Place, point: u32) -> RouteAnswer
+    ensures { result ≡ spec.missing place point }
+{
+    match place {
+        Place::Id(id) => RouteAnswer::NoNode { id },
+        Place::At(_) => RouteAnswer::NoSnap { point },
+    }
+}
+
+/// The answer to a query at present limits: a least walk between its places, or why there is none to give.
+pub fn route<L: Limits>(
+    alloc: Global,
+    ground: &Ground,
+    limits: &L,
+    query: &RouteQuery<'_>,
+) -> Result<RouteAnswer, NoMemory>
+    requires limits { L.edges limits.now ≡ length ground.now.graph.edges }
+    requires profile { query.now.profile < length ground.now.profiles }
+    requires from { IsPlace query.now.from }
+    requires to { IsPlace query.now.to }
+    ensures right { IfOk result (spec.IsRightAnswer ground.now (L.limit_of limits.now) (spec.asked query.now)) }
+{
+    let Some(from) = ground.spot(query.profile, query.from) else {
+        return Ok(missing(query.from, 1));
+    };
+    let Some(to) = ground.spot(query.profile, query.to) else {
+        return Ok(missing(query.to, 2));
+    };
+    let weighting = Weighting::new(ground.profile(query.profile), Some(query.model));
+    let pieces = Pieces::new(ground.graph(), limits, &weighting);
+    answer_between(alloc, &pieces, from, to, query.labels)
+}
