@@ -1,0 +1,4 @@
+pub mod Parts
+pub mod Models
+pub mod Growing
+pub mod Phases

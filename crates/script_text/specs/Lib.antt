@@ -1,0 +1,12 @@
+pub mod Words
+pub mod LineReading
+pub mod Names
+pub mod Fields
+pub mod Commands
+pub mod ModelTexts
+pub mod Headers
+pub mod Scripts
+pub mod Lines
+pub mod Grammar
+pub mod States
+pub mod Replies
