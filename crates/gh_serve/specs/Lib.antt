@@ -1,4 +1,7 @@
-pub mod CarFacts
-pub mod Cars
+pub mod Fitting
+pub mod Replying
+pub mod Serving
 pub mod Statuses
 pub mod Texts
+pub mod Underway
+pub mod Unrun

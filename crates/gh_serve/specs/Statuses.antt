@@ -1,12 +1,24 @@
 -- What a status says: of the words, of the bytes of map and script, and of what the sink has.
-use Rattle.std.specs.Prelude.{◌≡◌, ◌<◌, ◌≤◌, ℕ, List, length, Option, Some, None, Ok, Err}
+use Rattle.std.specs.Prelude.{◌≡◌, ◌<◌, ◌≤◌, ◌⊎◌, ℕ, List, length, Option, Some, None, Ok, Err}
 use Rattle.std.specs.Io.KnownBytes.{Appends, Keeps}
+use Rattle.gh_base.specs.declared.kinds.Form.{Form}
+use Rattle.gh_base.specs.declared.kinds.Form.TheVariants as forms
+use Rattle.gh_base.specs.declared.kinds.ScriptKind.{ScriptKind}
+use Rattle.gh_base.specs.declared.kinds.ScriptKind.TheVariants as kinds
 use Rattle.gh_base.specs.declared.map.OsmMap.{OsmMap}
-use Rattle.plain_map.specs.Lines.{reads}
+use Rattle.gh_base.specs.Causes.{AppendsFront}
+use Rattle.plain_map.specs.Lines as plain
 use Rattle.plain_map.specs.declared.fault.PlainFault.{PlainFault}
-use Rattle.plain_map.specs.declared.fault.PlainFault.TheVariants.{At, ReadFault, TooLong, NoMemory}
+use Rattle.plain_map.specs.declared.fault.PlainFault.TheVariants as plain_fault
+use Rattle.pbf_wire.specs.Files as pbf
+use Rattle.pbf_reader.specs.declared.fault.PbfFault.{PbfFault}
+use Rattle.pbf_reader.specs.declared.fault.PbfFault.TheVariants as pbf_fault
 use Rattle.map_import.specs.Refusals.{Laid, roads}
+use Rattle.script_text.specs.declared.script.ScriptRead.{ScriptRead}
+use Rattle.script_text.specs.declared.fault.ScriptFault.TheVariants as script_fault
+use Rattle.script_text.specs.Grammar.{script_of}
 use Rattle.gh_words.specs.Words.{Asked, Serve}
+use Rattle.gh_serve.specs.Unrun.{first_unrun}
 use Rattle.gh_serve.specs.declared.status.MapFault.{MapFault}
 use Rattle.gh_serve.specs.declared.status.MapFault.TheVariants as fault
 use Rattle.gh_serve.specs.declared.status.Status.{Status}
@@ -14,52 +26,84 @@ use Rattle.gh_serve.specs.declared.status.Status.TheVariants as status
 use Rattle.gh_serve.specs.declared.status.Which.TheVariants as which
 use Rattle.gh_serve.specs.declared.status.Quantity.TheVariants as quantity
 
--- a fact of the map's name, if the words ask for a map to be served
-abbrev pub IfServes : Option Asked → (List ℕ → Type 0) → Type 0
+-- a fact of the map's name and form, if the words ask for a map to be served
+abbrev pub IfServes : Option Asked → (List ℕ → Form → Type 0) → Type 0
 IfServes None P = Unit {0}
-IfServes (Some (Serve name form)) P = P name
+IfServes (Some (Serve name form)) P = P name form
 
 -- the map's bytes are not too many
 abbrev pub IsShortMap : List ℕ → Type 0
 IsShortMap held = length held ≤ 268435456
 
+-- the bytes are this map, in a form
+abbrev pub ReadsAs : Form → List ℕ → OsmMap → Type 0
+ReadsAs forms.Plain held map = plain.reads held ≡ Ok map
+ReadsAs forms.Pbf held map = pbf.reads held ≡ Ok map
+
+-- the map is in its grammar
+pub record IsInGrammar (form : Form) (held : List ℕ) : Type 0 where
+  pub short : IsShortMap held
+  pub map : OsmMap
+  pub reads_as : ReadsAs form held map
+
 -- the map is in its grammar, and has roads
-pub record IsMap (held : List ℕ) : Type 0 where
+pub record IsMap (form : Form) (held : List ℕ) : Type 0 where
   pub short : IsShortMap held
   pub map : OsmMap
   pub laid : Laid
-  pub reads_as : reads held ≡ Ok map
+  pub reads_as : ReadsAs form held map
   pub roads_are : roads map ≡ Ok laid
 
 -- what is wrong with the map: its first fault where it isn't in the grammar, and else the first refusal of import
-abbrev pub IsFaultOf : MapFault → List ℕ → Type 0
-IsFaultOf (fault.Plain line byte kind) held = reads held ≡ Err (At line byte kind)
-IsFaultOf (fault.Pbf byte kind) held = ⊥
-IsFaultOf (fault.Import refusal) held = (map : OsmMap) × (reads held ≡ Ok map) × (roads map ≡ Err refusal)
+abbrev pub IsFaultOf : MapFault → Form → List ℕ → Type 0
+IsFaultOf (fault.Plain line byte kind) forms.Plain held = plain.reads held ≡ Err (plain_fault.At line byte kind)
+IsFaultOf (fault.Plain line byte kind) forms.Pbf held = ⊥
+IsFaultOf (fault.Pbf byte kind) forms.Plain held = ⊥
+IsFaultOf (fault.Pbf byte kind) forms.Pbf held = pbf.reads held ≡ Err (byte, kind)
+IsFaultOf (fault.Import refusal) form held = (map : OsmMap) × ReadsAs form held map × (roads map ≡ Err refusal)
 
 -- the script's bytes are not too many
 abbrev pub IsShortScript : List ℕ → Type 0
 IsShortScript held = length held ≤ 16777216
 
+-- the script is in its grammar, and each of its lines is run
+pub record IsRunScript (held : List ℕ) : Type 0 where
+  pub short : IsShortScript held
+  pub read : ScriptRead
+  pub reads_as : script_of held ≡ Ok read
+  pub run : first_unrun held ≡ None
+
+-- the script that is read, of which each line is run
+pub record IsScriptRead (held : List ℕ) (read : ScriptRead) : Type 0 where
+  pub short : IsShortScript held
+  pub reads_as : script_of held ≡ Ok read
+  pub run : first_unrun held ≡ None
+
+-- the first fault of the script; or, where it is in its grammar, its first line that isn't run yet, at byte 0
+abbrev pub IsScriptFault : ℕ → ℕ → ScriptKind → List ℕ → Type 0
+IsScriptFault line byte kind held =
+    (script_of held ≡ Err (script_fault.At line byte kind))
+    ⊎ ((read : ScriptRead) × (script_of held ≡ Ok read) × (first_unrun held ≡ Some line) × (byte ≡ 0) × (kind ≡ kinds.Word))
+
 -- by the map's bytes: a fault exactly where it is answered, too many bytes exactly where that is, unless an earlier refusal came
-abbrev pub MapSays : Status → List ℕ → Type 0
-MapSays status.Done held = IsMap held
-MapSays status.Usage held = Unit {0}
-MapSays status.NoMemory held = Unit {0}
-MapSays status.OpenFault held = Unit {0}
-MapSays (status.ReadFault which.Map) held = Unit {0}
-MapSays (status.ReadFault which.Script) held = IsMap held
-MapSays status.WriteFault held = IsMap held
-MapSays (status.BadMap fault) held = IsShortMap held × IsFaultOf fault held
-MapSays (status.BadScript line byte kind) held = IsMap held
-MapSays (status.TooLarge quantity.Map limit) held = (limit ≡ 268435456) × (limit < length held)
-MapSays (status.TooLarge what limit) held = IsMap held
+abbrev pub MapSays : Status → Form → List ℕ → Type 0
+MapSays status.Done form held = IsMap form held
+MapSays status.Usage form held = Unit {0}
+MapSays status.NoMemory form held = Unit {0}
+MapSays status.OpenFault form held = Unit {0}
+MapSays (status.ReadFault which.Map) form held = Unit {0}
+MapSays (status.ReadFault which.Script) form held = IsMap form held
+MapSays status.WriteFault form held = IsMap form held
+MapSays (status.BadMap fault) form held = IsShortMap held × IsFaultOf fault form held
+MapSays (status.BadScript line byte kind) form held = IsMap form held
+MapSays (status.TooLarge quantity.Map limit) form held = (limit ≡ 268435456) × (limit < length held)
+MapSays (status.TooLarge what limit) form held = IsMap form held
 
 -- by the script's bytes, alike
 abbrev pub ScriptSays : Status → List ℕ → Type 0
-ScriptSays status.Done held = IsShortScript held
-ScriptSays status.WriteFault held = IsShortScript held
-ScriptSays (status.BadScript line byte kind) held = IsShortScript held
+ScriptSays status.Done held = IsRunScript held
+ScriptSays status.WriteFault held = IsRunScript held
+ScriptSays (status.BadScript line byte kind) held = IsShortScript held × IsScriptFault line byte kind held
 ScriptSays (status.TooLarge quantity.Script limit) held = (limit ≡ 16777216) × (limit < length held)
 ScriptSays status held = Unit {0}
 
@@ -82,30 +126,32 @@ IsOfMap status = ⊥
 abbrev pub IsOfScript : Status → Type 0
 IsOfScript status.NoMemory = Unit {0}
 IsOfScript (status.ReadFault which.Script) = Unit {0}
+IsOfScript (status.BadScript line byte kind) = Unit {0}
 IsOfScript (status.TooLarge quantity.Script limit) = Unit {0}
 IsOfScript status = ⊥
 
--- those that running the script gives
+-- those that answering the script gives
 abbrev pub IsOfRun : Status → Type 0
 IsOfRun status.NoMemory = Unit {0}
 IsOfRun status.WriteFault = Unit {0}
-IsOfRun (status.BadScript line byte kind) = Unit {0}
 IsOfRun status = ⊥
 
--- where they are known, the old bytes stand in front
-abbrev pub StandsInFront : Option (List ℕ) → Option (List ℕ) → Type 0
-StandsInFront old new = (more : List ℕ) × Appends old new more
+-- the statuses after which something may stand behind the sink's old bytes
+abbrev pub IsWritten : Status → Type 0
+IsWritten status.Done = Unit {0}
+IsWritten status.WriteFault = Unit {0}
+IsWritten status = ⊥
 
--- by the status: what a run that ends well, at a write or for want of memory wrote stands behind the old bytes; all others write nothing
-abbrev pub Writes : Status → Option (List ℕ) → Option (List ℕ) → Type 0
-Writes status.Done old new = StandsInFront old new
-Writes status.NoMemory old new = StandsInFront old new
-Writes status.WriteFault old new = StandsInFront old new
-Writes status old new = Keeps old new
-
--- the status that a reading of the map ends with
+-- the status that a reading of a plain map ends with
 abbrev pub status_of_plain : PlainFault → Status
-status_of_plain (At line byte kind) = status.BadMap (fault.Plain line byte kind)
-status_of_plain ReadFault = status.ReadFault which.Map
-status_of_plain TooLong = status.TooLarge quantity.Map 268435456
-status_of_plain NoMemory = status.NoMemory
+status_of_plain (plain_fault.At line byte kind) = status.BadMap (fault.Plain line byte kind)
+status_of_plain plain_fault.ReadFault = status.ReadFault which.Map
+status_of_plain plain_fault.TooLong = status.TooLarge quantity.Map 268435456
+status_of_plain plain_fault.NoMemory = status.NoMemory
+
+-- the status that a reading of a PBF file ends with
+abbrev pub status_of_pbf : PbfFault → Status
+status_of_pbf (pbf_fault.At byte kind) = status.BadMap (fault.Pbf byte kind)
+status_of_pbf pbf_fault.ReadFault = status.ReadFault which.Map
+status_of_pbf pbf_fault.TooLong = status.TooLarge quantity.Map 268435456
+status_of_pbf pbf_fault.NoMemory = status.NoMemory

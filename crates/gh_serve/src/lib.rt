@@ -1,19 +1,19 @@
 //! The service: the top call `run`, and the texts for faults.
 //!
-//! Promises: each way in which a run ends has its cause, as a clause of `run`: the words, a failed call of the
-//! outside, the bytes of the map; a run that is refused writes nothing. What the replies say is not claimed yet.
-//! Stands on the readers, on import and on the search. What a status says is defined in `specs/Statuses.antt`,
-//! and its text in `specs/Texts.antt`.
+//! Promises: a run that ends well wrote a text that answers the script over the map's roads: each reply is right, and the
+//! journal stands behind them (`specs/Serving.antt`, `Fitting.antt`, `Replying.antt`). Every other status has its cause as a clause of `run`,
+//! and says what was written (`specs/Statuses.antt`). Stands on the readers of maps and scripts, on import, and on `traffic_core`.
 #![tactic(auto)]
 
 mod answering;
-mod cars;
-mod reply;
-mod script;
+mod maps;
+mod replies;
+mod scripts;
 mod serving;
 mod status;
 mod texts;
 mod top;
+mod unrun;
 
 pub use status::{MapFault, Quantity, Status, Which};
 pub use texts::fault_text;

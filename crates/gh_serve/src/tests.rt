@@ -7,6 +7,22 @@ use std::alloc::{AllocError, Global};
 const MAP: &str =
     "n1 y0 x0\nn2 y0 x0.01\nn3 y0 x0.02\nw10 Thighway=secondary Nn1,n2\nw11 Thighway=secondary Nn2,n3\n";
 
+/// Two towers, and a road that leads from the first to the second alone.
+const ONE_WAY: &str = "n1 y0 x0\nn2 y0 x0.01\nw10 Thighway=secondary,oneway=yes Nn1,n2\n";
+
+/// Two roads beside each other, 222 m apart.
+const PARALLEL: &str =
+    "n1 y0 x0\nn2 y0 x0.01\nn3 y0.002 x0\nn4 y0.002 x0.01\nw10 Thighway=secondary Nn1,n2\nw11 Thighway=secondary Nn3,n4\n";
+
+/// A road for cars alone.
+const MOTORWAY: &str = "n1 y0 x0\nn2 y0 x0.01\nw10 Thighway=motorway Nn1,n2\n";
+
+/// A road where cars go 50 km/h.
+const TERTIARY: &str = "n1 y0 x0\nn2 y0 x0.01\nw10 Thighway=tertiary Nn1,n2\n";
+
+/// A road where cars go 45 km/h, since 50 is the most that is allowed.
+const SLOW: &str = "n1 y0 x0\nn2 y0 x0.01\nw10 Thighway=tertiary,maxspeed=50 Nn1,n2\n";
+
 const WORDS: [&str; 5] = ["serve", "--map", "m", "--form", "plain"];
 
 const NONE: [u64; 0] = [];
@@ -125,7 +141,7 @@ fn each_refusal_has_its_text_and_writes_nothing(rt: HostRuntime) -> Result<(), A
         ),
         (
             plain_case(map, b"actor a\na fly\n"),
-            "gh: script line 2 byte 0: Word",
+            "gh: script line 2 byte 2: Word",
         ),
         (
             Case {
@@ -150,5 +166,46 @@ fn a_script_of_one_byte_too_many_is_too_large(rt: HostRuntime) -> Result<(), All
     let (text, held) = outcome(alloc, &plain_case(MAP.as_bytes(), newlines.as_slice()))?;
     assert_eq!(rt; text.as_str(), "gh: script bytes over 16777216");
     assert_eq!(rt; held.len(), 0);
+    Ok(())
+}
+
+#[test]
+fn replies_are_those_worked_out_by_hand(rt: HostRuntime) -> Result<(), AllocError> {
+    for (map, script, wanted) in [
+        (
+            MAP,
+            "actor a\na route n1 n1\na labels n1 n2\na route 0,0.004 n1\na route 0,0.004 n2\n",
+            "a 1 0 route 0 0 0\na 2 0 labels 66717 0 66717 66717\na 3 0 route 26687 444779 1 0-\na 4 0 route 40031 667170 2 0+\njournal 0\n",
+        ),
+        (
+            ONE_WAY,
+            "actor a\na route 0,0.005 0,0.005\na route 0,0.006 0,0.004\na route n2 n1\na route n2 n2\n",
+            "a 1 0 route 0 0 1 0+\na 2 0 noroute 2\na 3 0 noroute 1\na 4 0 route 0 0 0\njournal 0\n",
+        ),
+        (
+            PARALLEL,
+            "actor a\na route 0.001,0.004 n1\na route n1 n3\n",
+            "a 1 0 route 26687 444777 1 0-\na 2 0 noroute 2\njournal 0\n",
+        ),
+        (
+            MOTORWAY,
+            "profile bike bike\nactor a\na route 0,0 0,0.01\na route n1 0,0\n",
+            "a 1 0 nosnap 1\na 2 0 nosnap 2\njournal 0\n",
+        ),
+        (
+            TERTIARY,
+            "profile car car {\"distance_influence\":70}\nactor a\na route n1 n2\na model car {\"distance_influence\":69}\na model car {\"distance_influence\":70}\na model car {\n",
+            "a 1 0 route 157898 1111949 1 0+\na 2 0 speeding distance_influence 0 69\na 3 0 taken\na 4 0 badjson 1 End\njournal 0\n",
+        ),
+        (
+            SLOW,
+            "actor a\na route n1 n2\na model car {\"speed\":[{\"if\":\"true\",\"limit_to\":\"max_speed * 0.5\"}]}\na route n1 n2\na model car {\"speed\":[{\"if\":\"true\",\"multiply_by\":\"lanez * 1\"}]}\na route n1 n2\n",
+            "a 1 0 route 88956 1111949 1 0+\na 2 0 taken\na 3 0 route 160121 1111949 1 0+\na 4 0 badmodel speed 1 0 Name\na 5 0 route 160121 1111949 1 0+\njournal 0\n",
+        ),
+    ] {
+        let (text, held) = outcome(rt.alloc(), &plain_case(map.as_bytes(), script.as_bytes()))?;
+        assert_eq!(rt; text.as_str(), "done");
+        assert_eq!(rt; held.as_slice(), wanted.as_bytes(), "{script}");
+    }
     Ok(())
 }

@@ -6,7 +6,7 @@ use Rattle.clap.specs.Words.{App, Kinds, Rule, Text as Word, fault_of, first_of,
 use Rattle.clap.specs.declared.builder.action.ArgAction.TheVariants.{Set}
 use Rattle.gh_base.specs.Decimals.{◌>>=◌}
 use Rattle.gh_base.specs.declared.kinds.Form.{Form}
-use Rattle.gh_base.specs.declared.kinds.Form.TheVariants.{Plain}
+use Rattle.gh_base.specs.declared.kinds.Form.TheVariants.{Plain, Pbf}
 use Rattle.gh_words.specs.declared.request.Request.{Request}
 use Rattle.gh_words.specs.declared.request.Request.TheVariants as request
 
@@ -38,7 +38,7 @@ is_dashes word = bytes_eq word (codes "-") || bytes_eq word (codes "--")
 
 -- the forms that can be read
 abbrev pub form_of : List ℕ → Option Form
-form_of word = if bytes_eq word (codes "plain") then Some Plain else None
+form_of word = if bytes_eq word (codes "plain") then Some Plain else if bytes_eq word (codes "pbf") then Some Pbf else None
 
 -- a map has a name, and a form that can be read
 abbrev pub serve_of : List ℕ → List ℕ → Option Asked

@@ -64,6 +64,8 @@ fn read_form(word: &str) -> Option<Form>
 {
     if word == "plain" {
         Some(Form::Plain)
+    } else if word == "pbf" {
+        Some(Form::Pbf)
     } else {
         None
     }

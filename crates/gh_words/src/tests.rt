@@ -49,7 +49,7 @@ fn other_lines_are_usage(rt: HostRuntime) -> Result<(), Fail> {
         "serve --map m --form plain --quick",
         "serve --map m",
         "serve --form plain",
-        "serve --map m --form pbf",
+        "serve --map m --form PBF",
         "serve --map m --form PLAIN",
         "serve --map m --form plain --",
         "serve --map m --form plain more",

@@ -1,0 +1,65 @@
+-- The claim: what a run that ends well wrote answers the script over the map's roads.
+use Rattle.std.specs.Prelude.{◌≡◌, ℕ, List, Option, Some, None, Ok, Err}
+use Rattle.std.specs.List.{IsDistinct}
+use Rattle.std.specs.Ordering.{int_eq}
+use Rattle.std.specs.Io.KnownBytes.{Appends}
+use Rattle.gh_base.specs.Causes.{AppendsFront}
+use Rattle.gh_base.specs.declared.kinds.Form.{Form}
+use Rattle.gh_base.specs.declared.map.OsmMap.{OsmMap}
+use Rattle.base_graph.specs.Graphs.{IsGraph}
+use Rattle.map_import.specs.Roads.{place_in, points_along}
+use Rattle.map_import.specs.Refusals.{roads}
+use Rattle.map_import.specs.Building.{laid_as}
+use Rattle.script_text.specs.declared.script.ScriptRead.{ScriptRead}
+use Rattle.script_text.specs.Grammar.{script_of}
+use Rattle.traffic_core.specs.Lands.{Land, AreAsLong}
+use Rattle.map_import.specs.declared.roads.Roads.{Roads}
+use Rattle.gh_serve.specs.declared.status.MapFault.TheVariants as fault
+use Rattle.gh_serve.specs.declared.status.Status.{Status}
+use Rattle.gh_serve.specs.declared.status.Status.TheVariants as status
+use Rattle.gh_serve.specs.Fitting.{Fits}
+use Rattle.gh_serve.specs.Statuses.{ReadsAs}
+
+-- the roads of a map: its towers and edges, each tower at the place of its node
+pub record AreRoadsOf (map : OsmMap) (land : Land) : Type 0 where
+  pub graph : IsGraph land.graph
+  pub laid : roads map ≡ Ok (laid_as land.ids land.graph)
+  pub places : land.graph.places ≡ points_along (place_in map.nodes) land.ids
+
+-- roads as import gives them are those of a map
+pub record AreRoadsIn (map : OsmMap) (found : Roads) : Type 0 where
+  pub laid : roads map ≡ Ok (laid_as found.ids found.graph.lists)
+  pub places : found.graph.lists.places ≡ points_along (place_in map.nodes) found.ids
+  pub distinct : IsDistinct int_eq found.ids
+  pub lengths : AreAsLong found.graph.lists
+
+-- of the map that these bytes are in a form
+pub record AreRoadsRead (form : Form) (held : List ℕ) (found : Roads) : Type 0 where
+  pub map : OsmMap
+  pub reads_as : ReadsAs form held map
+  pub roads_are : AreRoadsIn map found
+
+-- a refusal to import a map, or want of memory
+abbrev pub IsRefusedFor : OsmMap → Status → Type 0
+IsRefusedFor map status.NoMemory = Unit {0}
+IsRefusedFor map (status.BadMap (fault.Import refusal)) = roads map ≡ Err refusal
+IsRefusedFor map other = ⊥
+
+-- the text answers the script that these bytes are, over the roads of the map that those bytes are
+pub record IsServed (form : Form) (map_bytes script_bytes text : List ℕ) : Type 0 where
+  pub map : OsmMap
+  pub map_is : ReadsAs form map_bytes map
+  pub read : ScriptRead
+  pub script_is : script_of script_bytes ≡ Ok read
+  pub land : Land
+  pub roads_are : AreRoadsOf map land
+  pub profiles_are : land.profiles ≡ read.profiles
+  pub fits : Fits land read.script text
+
+-- where they are known, behind its old bytes the sink has such a text
+abbrev pub Serves : Form → List ℕ → List ℕ → Option (List ℕ) → Option (List ℕ) → Type 0
+Serves form map_bytes script_bytes old new = (text : List ℕ) × IsServed form map_bytes script_bytes text × Appends old new text
+
+-- or a front of it
+abbrev pub ServesFront : Form → List ℕ → List ℕ → Option (List ℕ) → Option (List ℕ) → Type 0
+ServesFront form map_bytes script_bytes old new = (text : List ℕ) × IsServed form map_bytes script_bytes text × AppendsFront old new text

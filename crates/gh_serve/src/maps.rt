@@ -1,0 +1,162 @@
+//! Maps, and their roads.
+ghost use Rattle.std.specs.Prelude.{◌≡◌, ◌≢◌, ◌≤◌, length, All, Ok, IfOk, IfErr, IsErrOf, IfSome};
+ghost use Rattle.std.specs.List.{IsDistinct};
+ghost use Rattle.std.specs.Ordering.{int_eq};
+ghost use Rattle.gh_base.specs.Causes.{Rose};
+ghost use Rattle.gh_base.specs.Places.{IsOnEarth};
+ghost use Rattle.gh_base.specs.declared.map.OsmNode.{OsmNode};
+ghost use Rattle.gh_base.specs.declared.map.OsmMap.{OsmMap};
+ghost use Rattle.traffic_core.specs.Lands.{AreAsLong};
+ghost use Rattle.gh_serve.specs.Statuses.{IsShortMap, IsInGrammar, IsMap, ReadsAs, MapSays, IsOfMap, status_of_plain, status_of_pbf};
+ghost use Rattle.gh_serve.specs.Serving.{AreRoadsIn, AreRoadsRead, IsRefusedFor};
+
+use crate::status::{MapFault, Quantity, Status, Which};
+use gh_base::{Files, Form, OsmMap, Source};
+use map_import::{ImportFault, Roads, import};
+use pbf_reader::{PbfFault, read_pbf};
+use plain_map::{PlainFault, read_plain};
+use std::alloc::Global;
+
+/// The most bytes of a map: 256 MiB.
+const LONGEST_MAP: u64 = 268_435_456;
+
+fn status_of_plain(fault: PlainFault) -> Status
+    ensures { result ≡ status_of_plain fault }
+{
+    match fault {
+        PlainFault::ReadFault => Status::ReadFault(Which::Map),
+        PlainFault::NoMemory => Status::NoMemory,
+        PlainFault::TooLong => Status::TooLarge {
+            what: Quantity::Map,
+            limit: LONGEST_MAP,
+        },
+        PlainFault::At { line, byte, kind } => {
+            Status::BadMap(MapFault::Plain { line, byte, kind })
+        }
+    }
+}
+
+fn status_of_pbf(fault: PbfFault) -> Status
+    ensures { result ≡ status_of_pbf fault }
+{
+    match fault {
+        PbfFault::ReadFault => Status::ReadFault(Which::Map),
+        PbfFault::NoMemory => Status::NoMemory,
+        PbfFault::TooLong => Status::TooLarge {
+            what: Quantity::Map,
+            limit: LONGEST_MAP,
+        },
+        PbfFault::At { byte, kind } => Status::BadMap(MapFault::Pbf { byte, kind }),
+    }
+}
+
+fn read_plain_map<S: Source>(alloc: Global, source: &mut S) -> Result<OsmMap, Status>
+    ensures map { IfOk result (λ map. IfSome (S.left source.old) (λ held. IsShortMap held × ReadsAs Form.Plain held map)) }
+    ensures err { IfErr result (λ status. IfSome (S.left source.old) (MapSays status Form.Plain)) }
+    ensures early { IfErr result IsOfMap }
+    ensures brought { IsErrOf result Status.OpenFault → ⊥ }
+    ensures read { IsErrOf result (Status.ReadFault Which.Map) → Rose (S.faults source.old) (S.faults source.new) }
+    ensures later { S.faults source.old ≤ S.faults source.new }
+    ensures mark { S.mark source.new ≡ S.mark source.old }
+    ensures on_earth { IfOk result (λ map. All (λ (node : OsmNode). IsOnEarth node.place) map.nodes) }
+{
+    match read_plain(alloc, source) {
+        Ok(map) => Ok(map),
+        Err(fault) => Err(status_of_plain(fault)),
+    }
+}
+
+fn read_pbf_map<S: Source>(alloc: Global, source: &mut S) -> Result<OsmMap, Status>
+    ensures map { IfOk result (λ map. IfSome (S.left source.old) (λ held. IsShortMap held × ReadsAs Form.Pbf held map)) }
+    ensures err { IfErr result (λ status. IfSome (S.left source.old) (MapSays status Form.Pbf)) }
+    ensures early { IfErr result IsOfMap }
+    ensures brought { IsErrOf result Status.OpenFault → ⊥ }
+    ensures read { IsErrOf result (Status.ReadFault Which.Map) → Rose (S.faults source.old) (S.faults source.new) }
+    ensures later { S.faults source.old ≤ S.faults source.new }
+    ensures mark { S.mark source.new ≡ S.mark source.old }
+    ensures on_earth { IfOk result (λ map. All (λ (node : OsmNode). IsOnEarth node.place) map.nodes) }
+{
+    match read_pbf(alloc, source) {
+        Ok(map) => Ok(map),
+        Err(fault) => Err(status_of_pbf(fault)),
+    }
+}
+
+/// Reads a map in a form.
+pub(crate) fn read_map<S: Source>(
+    alloc: Global,
+    source: &mut S,
+    form: Form,
+) -> Result<OsmMap, Status>
+    ensures map { IfOk result (λ map. IfSome (S.left source.old) (λ held. IsShortMap held × ReadsAs form held map)) }
+    ensures err { IfErr result (λ status. IfSome (S.left source.old) (MapSays status form)) }
+    ensures early { IfErr result IsOfMap }
+    ensures brought { IsErrOf result Status.OpenFault → ⊥ }
+    ensures read { IsErrOf result (Status.ReadFault Which.Map) → Rose (S.faults source.old) (S.faults source.new) }
+    ensures later { S.faults source.old ≤ S.faults source.new }
+    ensures mark { S.mark source.new ≡ S.mark source.old }
+    ensures on_earth { IfOk result (λ map. All (λ (node : OsmNode). IsOnEarth node.place) map.nodes) }
+{
+    match form {
+        Form::Plain => read_plain_map(alloc, source),
+        Form::Pbf => read_pbf_map(alloc, source),
+    }
+}
+
+/// Brings and reads the map of a name. The source goes back whatever comes.
+fn bring_map<F: Files>(
+    alloc: Global,
+    files: &mut F,
+    name: &str,
+    form: Form,
+) -> Result<OsmMap, Status>
+    ensures map { IfOk result (λ map. IfSome (F.holds files.old name.now) (λ held. IsShortMap held × ReadsAs form held map)) }
+    ensures err { IfErr result (λ status. IfSome (F.holds files.old name.now) (MapSays status form)) }
+    ensures early { IfErr result IsOfMap }
+    ensures open { IsErrOf result Status.OpenFault → Rose (F.failed_brings files.old (F.mark_of files.old name.now)) (F.failed_brings files.new (F.mark_of files.old name.now)) }
+    ensures read { IsErrOf result (Status.ReadFault Which.Map) → Rose (F.failed_takes files.old (F.mark_of files.old name.now)) (F.failed_takes files.new (F.mark_of files.old name.now)) }
+    ensures on_earth { IfOk result (λ map. All (λ (node : OsmNode). IsOnEarth node.place) map.nodes) }
+{
+    let Ok(mut source) = files.bring(name) else {
+        return Err(Status::OpenFault);
+    };
+    let read = read_map(alloc, &mut source, form);
+    files.take_back(source);
+    read
+}
+
+/// The roads of a map.
+fn roads_of(alloc: Global, map: &OsmMap) -> Result<Roads, Status>
+    requires { All (λ (node : OsmNode). IsOnEarth node.place) map.now.nodes }
+    ensures roads { IfOk result (AreRoadsIn map.now) }
+    ensures refused { IfErr result (IsRefusedFor map.now) }
+{
+    match import(alloc, map) {
+        Ok(roads) => Ok(roads),
+        Err(ImportFault::NoMemory) => Err(Status::NoMemory),
+        Err(fault) => Err(Status::BadMap(MapFault::Import(fault))),
+    }
+}
+
+/// Reads the map of a name and imports it.
+pub(crate) fn read_roads<F: Files>(
+    alloc: Global,
+    files: &mut F,
+    name: &str,
+    form: Form,
+) -> Result<Roads, Status>
+    ensures map { IfOk result (λ roads. IfSome (F.holds files.old name.now) (λ held. IsShortMap held × AreRoadsRead form held roads)) }
+    ensures err { IfErr result (λ status. IfSome (F.holds files.old name.now) (MapSays status form)) }
+    ensures early { IfErr result IsOfMap }
+    ensures open { IsErrOf result Status.OpenFault → Rose (F.failed_brings files.old (F.mark_of files.old name.now)) (F.failed_brings files.new (F.mark_of files.old name.now)) }
+    ensures read { IsErrOf result (Status.ReadFault Which.Map) → Rose (F.failed_takes files.old (F.mark_of files.old name.now)) (F.failed_takes files.new (F.mark_of files.old name.now)) }
+    ensures lengths { IfOk result (λ roads. AreAsLong roads.graph.lists) }
+    ensures ids { IfOk result (λ roads. length roads.ids ≡ length roads.graph.lists.places) }
+    ensures distinct { IfOk result (λ roads. IsDistinct int_eq roads.ids) }
+{
+    let map = match bring_map(alloc, files, name, form) {
+        Ok(map) => map,
+        Err(status) => return Err(status),
+    };
+    roads_of(alloc, &map)
+}

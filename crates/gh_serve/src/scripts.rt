@@ -1,0 +1,77 @@
+//! Scripts.
+ghost use Rattle.std.specs.Prelude.{◌≡◌, ◌≤◌, length, None, Ok, IfOk, IfErr, IsErrOf, IfSome};
+ghost use Rattle.gh_base.specs.Causes.{Rose};
+ghost use Rattle.script_text.specs.Scripts.{IsScript};
+ghost use Rattle.gh_serve.specs.Unrun.{first_unrun};
+ghost use Rattle.gh_serve.specs.Statuses.{IsShortScript, IsScriptRead, IsOfScript, ScriptSays};
+
+use crate::status::{Quantity, Status, Which};
+use crate::unrun::first_unrun;
+use gh_base::{ScriptKind, Source, TakeFault, read_whole};
+use script_text::{ScriptFault, ScriptRead, read_script};
+use std::alloc::Global;
+
+/// The most bytes of a script: 16 MiB.
+const LONGEST_SCRIPT: usize = 16_777_216;
+
+fn read_bytes<I: Source>(alloc: Global, source: &mut I) -> Result<Vec<u8>, Status>
+    ensures bytes { IfOk result (λ bytes. IfSome (I.left source.old) (λ held. held ≡ bytes.items)) }
+    ensures short { IfOk result (λ bytes. length bytes.items ≤ 16777216) }
+    ensures err { IfErr result (λ status. IfSome (I.left source.old) (ScriptSays status)) }
+    ensures early { IfErr result IsOfScript }
+    ensures read { IsErrOf result (Status.ReadFault Which.Script) → Rose (I.faults source.old) (I.faults source.new) }
+{
+    match read_whole(alloc, source, LONGEST_SCRIPT) {
+        Ok(bytes) => Ok(bytes),
+        Err(TakeFault::ReadFault) => Err(Status::ReadFault(Which::Script)),
+        Err(TakeFault::NoMemory) => Err(Status::NoMemory),
+        Err(TakeFault::TooLong) => Err(Status::TooLarge {
+            what: Quantity::Script,
+            limit: LONGEST_SCRIPT as u64,
+        }),
+    }
+}
+
+/// The script that bytes are, of which each line is run.
+fn parse(alloc: Global, bytes: &[u8]) -> Result<ScriptRead, Status>
+    requires { length bytes.now ≤ 16777216 }
+    ensures read { IfOk result (IsScriptRead bytes.now) }
+    ensures script { IfOk result (λ read. IsScript read.profiles read.script) }
+    ensures err { IfErr result (λ status. ScriptSays status bytes.now) }
+    ensures early { IfErr result IsOfScript }
+    ensures fault { IsErrOf result (Status.ReadFault Which.Script) → ⊥ }
+{
+    let read = match read_script(alloc, bytes) {
+        Ok(read) => read,
+        Err(ScriptFault::NoMemory) => return Err(Status::NoMemory),
+        Err(ScriptFault::At { line, byte, kind }) => {
+            return Err(Status::BadScript { line, byte, kind });
+        }
+    };
+    match first_unrun(bytes) {
+        None => Ok(read),
+        Some(line) => Err(Status::BadScript {
+            line,
+            byte: 0,
+            kind: ScriptKind::Word,
+        }),
+    }
+}
+
+/// Reads a script of which each line is run, to the end of its source.
+pub(crate) fn read_run_script<I: Source>(
+    alloc: Global,
+    source: &mut I,
+) -> Result<ScriptRead, Status>
+    ensures read { IfOk result (λ read. IfSome (I.left source.old) (λ held. IsScriptRead held read)) }
+    ensures script { IfOk result (λ read. IsScript read.profiles read.script) }
+    ensures err { IfErr result (λ status. IfSome (I.left source.old) (ScriptSays status)) }
+    ensures early { IfErr result IsOfScript }
+    ensures fault { IsErrOf result (Status.ReadFault Which.Script) → Rose (I.faults source.old) (I.faults source.new) }
+{
+    let bytes = match read_bytes(alloc, source) {
+        Ok(bytes) => bytes,
+        Err(status) => return Err(status),
+    };
+    parse(alloc, &bytes)
+}
