@@ -5,6 +5,8 @@
 //! can hide an answer.
 #![tactic(auto)]
 
+mod convert;
+mod options;
 mod request;
 mod serve;
 #[cfg(test)]

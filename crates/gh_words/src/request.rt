@@ -8,6 +8,8 @@ use thiserror::Error;
 pub enum Request<'a> {
     /// To answer queries over the map of this name, which is in this form.
     Serve { map: &'a str, form: Form },
+    /// To write the map of this name, which is in `form`, in the form `to`.
+    Convert { map: &'a str, form: Form, to: Form },
 }
 
 /// Why words are no request.

@@ -2,6 +2,7 @@
 ghost use Rattle.std.specs.Prelude.{◌≡◌, IfOk, IsErrOf, map, string_bytes, None, Some};
 ghost use Rattle.gh_words.specs.Words.{asked, asked_by};
 
+use crate::convert::read_convert;
 use crate::request::{Request, WordsFault};
 use crate::serve::read_serve;
 use std::alloc::Global;
@@ -15,6 +16,7 @@ pub fn read_words<'a>(alloc: Global, words: &'a [String]) -> Result<Request<'a>,
 {
     match words {
         [first, ..] if first.as_str() == "serve" => read_serve(alloc, words),
+        [first, ..] if first.as_str() == "convert" => read_convert(alloc, words),
         _ => Err(WordsFault::Usage),
     }
 }

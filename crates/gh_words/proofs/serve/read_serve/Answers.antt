@@ -1,13 +1,13 @@
-use Rattle.std.proofs.Common.{◌≡◌, ◌∙◌, sym, map, string_bytes, true, false}
-use Rattle.std.specs.List.{list_any}
-use Rattle.gh_words.specs.Words.{is_dashes, serve_asked}
+use Rattle.std.proofs.Common.{◌≡◌, Some, subst, map, string_bytes}
+use Rattle.clap.specs.Words.{found_of, rows_of}
+use Rattle.gh_words.specs.Words.{serve_app, serve_asked, serve_in, found_in}
 use Rattle.gh_words.specs.declared.request.WordsFault.TheVariants.{Usage}
-use Rattle.gh_words.proofs.Free.{refused_by}
+use Rattle.gh_words.proofs.Answered.{answered}
 use Rattle.gh_words.proofs.serve.read_serve.Goals as goal
 
-pub returns-in-Err-clause-usage : goal.returns-in-Err-clause-usage
+pub returns-clause-request : goal.returns-clause-request
 unfolding serve_asked
-returns-in-Err-clause-usage c = λ u.
-    let usage : c.fault_of_error.result ≡ Usage = cc u in
-    let none : list_any is_dashes (map (λ w. string_bytes w) c.args.words.now) ≡ false = sym c.has_dashes.ensures ∙ c.if-has_dashes.false in
-    rw none (refused_by _ _ (c.in-Err.ensures.refused (c.fault_of_error.ensures usage)))
+returns-clause-request c =
+    let found : found_in serve_app (map (λ w. string_bytes w) c.args.words.now) ≡ Some (rows_of (found_of c.in_ok-matches.matches))
+    = subst (λ a. found_in a (map (λ w. string_bytes w) c.args.words.now) ≡ Some (rows_of (found_of c.in_ok-matches.matches))) c.in_ok-map_command.ensures c.in_ok-matches.ensures.found in
+    rw c.ok_or.ensures.value (answered _ serve_in (rows_of (found_of c.in_ok-matches.matches)) c.serve_given.result Usage found c.serve_given.ensures)
