@@ -13,7 +13,7 @@ use crate::found::{Found, nearer};
 use crate::order::{CELL_EDGES, Placed, in_rows};
 use crate::rows::Rows;
 use base_graph::BaseGraph;
-use gh_base::{EdgeId, NoMemory, Point};
+use gh_base::{EdgeId, NoMemory, NodeId, Point};
 use std::alloc::Global;
 
 /// A place on an edge: so many mm from its base, at most its length.
@@ -40,7 +40,7 @@ impl Grid {
         requires { HasLineLengths graph.now.lists }
         ensures { IfOk result (λ grid. IsGridOf graph.now.lists grid) }
     {
-        let rows = Rows::of(graph);
+        let rows = rows_of(graph);
         let order = in_rows(alloc, graph, rows)?;
         let boxes = boxes_of(alloc, graph, &order)?;
         Ok(Grid { rows, order, boxes })
@@ -112,4 +112,17 @@ impl Grid {
         let place = self.order.partition_point(|placed| placed.key < key);
         place.saturating_sub(CELL_EDGES / 2)
     }
+}
+
+/// About as many rows over the latitudes of a graph as a row has cells.
+fn rows_of(graph: &BaseGraph) -> Rows {
+    let mut south = i32::MAX;
+    let mut north = i32::MIN;
+    for node in 0..graph.node_count() {
+        let place = graph.place(NodeId(node));
+        south = south.min(place.lat);
+        north = north.max(place.lat);
+    }
+    let cells = graph.edge_count() / CELL_EDGES as u32;
+    Rows::of(north.max(south).abs_diff(south), cells.isqrt() + 1)
 }
