@@ -14,6 +14,6 @@ loop-hop-preserved c = λ k d lt.
     elim (cases_lt k c.loop-hop.hop-index) [
       | inl l ↦ c.loop-hop.invariant k d l
       | inr past ↦ carry
-          (λ hop. (other : Hop) × Contains ((network_in c.args.rows.now).hops hop.to.0) other × (other.to.0 ≡ c.args.node) × (other.weight ≡ hop.weight))
+          (λ hop. (other : Hop) × Contains ((network_in c.args.back.now).hops hop.to.0) other × (other.to.0 ≡ c.args.node) × (other.weight ≡ hop.weight))
           c.args.row.now c.loop-hop.hop-index k d _ c.loop-hop-test.true (omega arith) (c.has_back.ensures (search rules))
     ]

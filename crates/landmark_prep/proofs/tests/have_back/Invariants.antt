@@ -6,4 +6,4 @@ use Rattle.landmark_prep.proofs.tests.have_back.Given as goal
 -- each hop so far has one back
 abbrev pub invariant-loop-hop : goal.invariant-loop-hop
 invariant-loop-hop l = (k : ℕ) (d : Hop) → k < l.hop-index →
-    (other : Hop) × Contains ((network_in l.rows).hops (slice_index_or l.row k d).to.0) other × (other.to.0 ≡ l.node) × (other.weight ≡ (slice_index_or l.row k d).weight)
+    (other : Hop) × Contains ((network_in l.back).hops (slice_index_or l.row k d).to.0) other × (other.to.0 ≡ l.node) × (other.weight ≡ (slice_index_or l.row k d).weight)

@@ -1,12 +1,11 @@
-use Rattle.std.proofs.Common.{◌≡◌, ◌<◌, ℕ, List, [], length, All, refl, ◌∙◌, ap, sym, subst, inl, inr, arith, rules}
+use Rattle.std.proofs.Common.{◌≡◌, ◌<◌, ℕ, List, [], length, All, ◌∙◌, ap, sym, subst, inl, inr, arith, rules}
 use Rattle.std.proofs.lemmas.Bool.{cases_lt}
 use Rattle.std.proofs.lemmas.List.{get_or_past, get_or_default}
 use Rattle.std.proofs.lemmas.List.Elements.{All-contains}
 use Rattle.std.specs.Prelude.{slice_index_or, Contains}
 use Rattle.gh_base.specs.declared.edges.Hop.{Hop}
-use Rattle.walk_rules.specs.Walks.{HasEachBack}
 use Rattle.alt_search.specs.Rows.{network_in}
-use Rattle.landmark_prep.proofs.tests.are_both_ways.Goals as goal
+use Rattle.landmark_prep.proofs.tests.have_each_back.Goals as goal
 
 -- what holds of each hop of a row holds of one that the list of rows has there
 in_the_row : (P : ℕ → Hop → Type 0) (rows : List (List Hop)) (i n : ℕ) (item row : List Hop) (hop : Hop) →
@@ -20,19 +19,17 @@ loop-node-preserved c = λ n lt hop has.
     elim (cases_lt n c.loop-node.node) [
       | inl l ↦ c.loop-node.invariant n l hop has
       | inr past ↦ in_the_row
-          (λ node hop. (other : Hop) × Contains ((network_in c.args.rows.now).hops hop.to.0) other × (other.to.0 ≡ node) × (other.weight ≡ hop.weight))
+          (λ node hop. (other : Hop) × Contains ((network_in c.args.back.now).hops hop.to.0) other × (other.to.0 ≡ node) × (other.weight ≡ hop.weight))
           c.args.rows.now c.loop-node.node n c.index-rows-node.result c.as_slice.result.now hop
           c.loop-node-test.true (omega arith) c.index-rows-node.is c.as_slice.ensures (c.have_back.ensures (search rules)) has
     ]
 
 pub returns : goal.returns
-returns c = λ t.
-    let each : HasEachBack (network_in c.args.rows.now) (network_in c.args.rows.now) = λ node hop h s.
+returns c = λ t node hop h s.
     elim (cases_lt node (length c.args.rows.now)) [
       | inl l ↦ c.loop-node.invariant node (omega arith) hop h
       | inr past ↦ absurd (
           let none : slice_index_or c.args.rows.now node [] ≡ [] = get_or_past c.args.rows.now node [] past in
           let empty = subst (λ (xs : List Hop). Contains xs hop) none h in
           omega (arith, empty.1))
-    ] in
-    record { nodes = refl; there = each; here = each }
+    ]
