@@ -5,7 +5,6 @@ use Rattle.std.specs.Prelude.{IsTrue, All, ◌&&◌, ◌||◌}
 use Rattle.exact_json.specs.declared.value.Json.{Json}
 use Rattle.model_eval.specs.declared.custom_model.Area.{Area}
 use Rattle.model_eval.specs.declared.custom_model.Running.{Running}
-use Rattle.model_eval.specs.declared.custom_model.Branch.{Branch}
 use Rattle.model_eval.specs.declared.custom_model.Statement.{Statement}
 use Rattle.model_eval.specs.Models.{goes_on, are_in_blocks, IsStatement, AreStatements}
 use Rattle.model_eval.specs.Running.{begins}

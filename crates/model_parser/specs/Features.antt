@@ -1,16 +1,15 @@
 -- The areas of a model: a collection of features with different ids (RFC 7946, sections 3.2 and 3.3; GraphHopper
 -- documentation, "Custom models", areas).
-use Rattle.std.specs.Prelude.{◌≡◌, ℕ, ◌+◌, Bool, true, false, not, ◌&&◌, List, [], ◌∷◌, ◌++◌, length, Option, Some, None, Result, Ok, Err, nat_le, codes, if◌then◌else◌}
+use Rattle.std.specs.Prelude.{ℕ, ◌+◌, Bool, false, not, ◌&&◌, List, [], ◌∷◌, ◌++◌, length, Option, Some, None, Ok, nat_le, codes, if◌then◌else◌}
 use Rattle.std.specs.List.{list_all, list_any, sum_by}
 use Rattle.std.specs.Str.{bytes_eq}
-use Rattle.gh_base.specs.declared.map.Point.{Point}
 use Rattle.gh_base.specs.declared.kinds.Part.TheVariants as part
 use Rattle.gh_base.specs.declared.kinds.ModelKind.TheVariants as kind
 use Rattle.exact_json.specs.declared.value.Json.{Json}
 use Rattle.exact_json.specs.declared.value.Member.{Member}
 use Rattle.model_eval.specs.declared.custom_model.Area.{Area}
 use Rattle.model_texts.specs.Tokens.{begins_word, in_word}
-use Rattle.model_parser.specs.Faults.{Outcome, ◌>>=◌, ◌>>◌, pure, fault, known, must}
+use Rattle.model_parser.specs.Faults.{Outcome, ◌>>=◌, ◌>>◌, pure, known, must}
 use Rattle.model_parser.specs.Values.{object_of, array_of, find, text_at}
 use Rattle.model_parser.specs.Outlines.{geometry_of, positions_in}
 use Rattle.model_parser.specs.Rings.{rings_from}

@@ -1,6 +1,6 @@
 -- A custom model as a JSON value (GraphHopper documentation, "Custom models"), or its first fault: of the top, and then
 -- of the areas, the speed, the priority and the distance influence.
-use Rattle.std.specs.Prelude.{◌≡◌, ℕ, ◌*◌, ◌/◌, ◌%◌, ◌^◌, ℤ, Bool, true, false, ◌||◌, ◌==◌, not, List, [], ◌∷◌, Option, Some, None, Result, Ok, Err, nat_lt, codes, if◌then◌else◌}
+use Rattle.std.specs.Prelude.{◌≡◌, ℕ, ◌/◌, ◌%◌, ◌^◌, ℤ, Bool, ◌||◌, ◌==◌, not, List, Option, Some, None, Result, Ok, Err, nat_lt, codes, if◌then◌else◌}
 use Rattle.std.specs.List.{list_all}
 use Rattle.std.specs.Str.{bytes_eq}
 use Rattle.gh_base.specs.Decimals.{decimal_of}

@@ -1,5 +1,5 @@
 -- The rings of polygons, ring by ring, with their first fault (RFC 7946, sections 3.1.1 and 3.1.6).
-use Rattle.std.specs.Prelude.{◌≡◌, ℕ, List, [], ◌∷◌, Option, Some, None, Result, Ok, Err}
+use Rattle.std.specs.Prelude.{ℕ, List, [], ◌∷◌, Ok}
 use Rattle.gh_base.specs.declared.map.Point.{Point}
 use Rattle.gh_base.specs.declared.kinds.Part.TheVariants as part
 use Rattle.gh_base.specs.declared.kinds.ModelKind.TheVariants as kind

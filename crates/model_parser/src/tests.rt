@@ -1,8 +1,9 @@
 //! Models and their first faults, from JSON texts.
 use crate::{ModelFault, ModelKind, Part, Place3, parse_model};
 use exact_json::{Json, read};
-use model_eval::{Action, Branch, CustomModel, NumberName, Test};
-use std::alloc::Global;
+use gh_base::Point;
+use model_eval::{Action, Branch, CustomModel, NumberName, Test, inside};
+use std::alloc::{AllocError, Global};
 use std::process::Abort;
 use std::test::Fail;
 
@@ -304,5 +305,95 @@ fn limits_are_refused_and_nothing_is_a_model(rt: HostRuntime) -> Result<(), Fail
     let empty = model(&rt, alloc, "{}");
     assert!(rt; empty.speed.is_empty() && empty.areas.is_empty());
     assert!(rt; empty.distance_influence == None);
+    Ok(())
+}
+
+#[test]
+fn an_area_has_all_polygons_and_their_holes(rt: HostRuntime) -> Result<(), Fail> {
+    let alloc = rt.alloc();
+    // Two squares side by side, each with a square hole.
+    let text = with_feature(
+        alloc,
+        "",
+        "parts",
+        "MultiPolygon",
+        "[[[[0,0],[9,0],[9,9],[0,9],[0,0]],[[3,3],[6,3],[6,6],[3,6],[3,3]]],[[[20,0],[29,0],[29,9],[20,9],[20,0]],[[23,3],[26,3],[26,6],[23,6],[23,3]]]]",
+    )?;
+    let model = model(&rt, alloc, text.as_str());
+    let [parts] = model.areas.as_slice() else {
+        panic!(rt; "other areas");
+    };
+    let mut first = Vec::new(alloc);
+    for ring in parts.rings.as_slice() {
+        if let [point, ..] = ring.as_slice() {
+            first.push((point.lon / 10_000_000, point.lat / 10_000_000, ring.len()))?;
+        }
+    }
+    let wanted = [(0, 0, 5), (3, 3, 5), (20, 0, 5), (23, 3, 5)];
+    assert!(rt; first.as_slice() == wanted.as_slice());
+    for (lon, want) in [
+        (1, true),
+        (3, true),
+        (4, false),
+        (12, false),
+        (21, true),
+        (24, false),
+    ] {
+        let point = Point {
+            lat: 40_000_000,
+            lon: lon * 10_000_000,
+        };
+        assert!(rt; inside(parts, point) == want, "{lon}");
+    }
+    Ok(())
+}
+
+/// The coordinates of a polygon of one ring, which is so many positions at one place, and at least one.
+fn positions(alloc: Global, count: usize) -> Result<String, AllocError> {
+    let mut text = String::new(alloc);
+    text.push_str("[[[0,0]")?;
+    for _turn in 1..count {
+        text.push_str(",[0,0]")?;
+    }
+    text.push_str("]]")?;
+    Ok(text)
+}
+
+#[test]
+fn ten_thousand_positions_are_read_and_one_more_is_too_many(rt: HostRuntime) -> Result<(), Fail> {
+    let alloc = rt.alloc();
+    let most = positions(alloc, 9_996)?;
+    let before = format!(in alloc;
+        r#"{{"type":"Feature","id":"a","geometry":{{"type":"Polygon","coordinates":{most}}}}},"#
+    )?;
+    let all = with_feature(
+        alloc,
+        before.as_str(),
+        "b",
+        "Polygon",
+        "[[[0,0],[0,1],[1,1],[0,0]]]",
+    )?;
+    let model = model(&rt, alloc, all.as_str());
+    assert!(rt; model.areas.len() == 2);
+    // It is told at the feature that passes the number, before the bad position of that feature.
+    let more = with_feature(
+        alloc,
+        before.as_str(),
+        "b",
+        "Polygon",
+        "[[[0],[0,1],[1,1],[0,0],[0,0]]]",
+    )?;
+    let wanted = ModelFault::At {
+        place: Place3 {
+            part: Part::Areas,
+            item: 2,
+            byte: 0,
+        },
+        kind: ModelKind::TooMany,
+    };
+    match parse_model(alloc, &value(&rt, alloc, more.as_str())) {
+        Err(fault) => assert!(rt; fault == wanted),
+        Ok(_) => panic!(rt; "a model"),
+    }
     Ok(())
 }
