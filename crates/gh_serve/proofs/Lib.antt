@@ -1,3 +1,4 @@
 pub mod Fronts
 pub mod Sequel
 pub mod Alone
+pub mod Complete

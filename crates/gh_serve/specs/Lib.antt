@@ -1,3 +1,4 @@
+pub mod Converting
 pub mod Fitting
 pub mod Replying
 pub mod Serving

@@ -1,12 +1,11 @@
 -- What a status says: of the words, of the bytes of map and script, and of what the sink has.
 use Rattle.std.specs.Prelude.{◌≡◌, ◌<◌, ◌≤◌, ◌⊎◌, ℕ, List, length, Option, Some, None, Ok, Err}
-use Rattle.std.specs.Io.KnownBytes.{Appends, Keeps}
 use Rattle.gh_base.specs.declared.kinds.Form.{Form}
 use Rattle.gh_base.specs.declared.kinds.Form.TheVariants as forms
 use Rattle.gh_base.specs.declared.kinds.ScriptKind.{ScriptKind}
 use Rattle.gh_base.specs.declared.kinds.ScriptKind.TheVariants as kinds
 use Rattle.gh_base.specs.declared.map.OsmMap.{OsmMap}
-use Rattle.gh_base.specs.Causes.{AppendsFront}
+use Rattle.gh_base.specs.Causes.{Rose}
 use Rattle.plain_map.specs.Lines as plain
 use Rattle.plain_map.specs.declared.fault.PlainFault.{PlainFault}
 use Rattle.plain_map.specs.declared.fault.PlainFault.TheVariants as plain_fault
@@ -17,7 +16,7 @@ use Rattle.map_import.specs.Refusals.{Laid, roads}
 use Rattle.script_text.specs.declared.script.ScriptRead.{ScriptRead}
 use Rattle.script_text.specs.declared.fault.ScriptFault.TheVariants as script_fault
 use Rattle.script_text.specs.Grammar.{script_of}
-use Rattle.gh_words.specs.Words.{Asked, Serve}
+use Rattle.gh_words.specs.Words.{Asked, Serve, Convert}
 use Rattle.gh_serve.specs.Unrun.{first_unrun}
 use Rattle.gh_serve.specs.declared.status.MapFault.{MapFault}
 use Rattle.gh_serve.specs.declared.status.MapFault.TheVariants as fault
@@ -30,6 +29,19 @@ use Rattle.gh_serve.specs.declared.status.Quantity.TheVariants as quantity
 abbrev pub IfServes : Option Asked → (List ℕ → Form → Type 0) → Type 0
 IfServes None P = Unit {0}
 IfServes (Some (Serve name form)) P = P name form
+IfServes (Some (Convert name form to)) P = Unit {0}
+
+-- a fact of the map's name and of both forms, if they ask for it to be converted
+abbrev pub IfConverts : Option Asked → (List ℕ → Form → Form → Type 0) → Type 0
+IfConverts None P = Unit {0}
+IfConverts (Some (Serve name form)) P = Unit {0}
+IfConverts (Some (Convert name form to)) P = P name form to
+
+-- a fact of the map's name, if they ask for either
+abbrev pub IfReads : Option Asked → (List ℕ → Type 0) → Type 0
+IfReads None P = Unit {0}
+IfReads (Some (Serve name form)) P = P name
+IfReads (Some (Convert name form to)) P = P name
 
 -- the map's bytes are not too many
 abbrev pub IsShortMap : List ℕ → Type 0
@@ -39,12 +51,6 @@ IsShortMap held = length held ≤ 268435456
 abbrev pub ReadsAs : Form → List ℕ → OsmMap → Type 0
 ReadsAs forms.Plain held map = plain.reads held ≡ Ok map
 ReadsAs forms.Pbf held map = pbf.reads held ≡ Ok map
-
--- the map is in its grammar
-pub record IsInGrammar (form : Form) (held : List ℕ) : Type 0 where
-  pub short : IsShortMap held
-  pub map : OsmMap
-  pub reads_as : ReadsAs form held map
 
 -- the map is in its grammar, and has roads
 pub record IsMap (form : Form) (held : List ℕ) : Type 0 where
@@ -107,11 +113,39 @@ ScriptSays (status.BadScript line byte kind) held = IsShortScript held × IsScri
 ScriptSays (status.TooLarge quantity.Script limit) held = (limit ≡ 16777216) × (limit < length held)
 ScriptSays status held = Unit {0}
 
--- the sizes that are judged so far
-abbrev pub IsJudged : Status → Type 0
-IsJudged (status.TooLarge quantity.Labels limit) = ⊥
-IsJudged (status.TooLarge quantity.Way limit) = ⊥
-IsJudged status = Unit {0}
+-- the statuses that a service ends with. No script that is run asks for labels of landmarks.
+abbrev pub IsOfService : Status → Type 0
+IsOfService status.Usage = ⊥
+IsOfService (status.TooLarge quantity.Labels limit) = ⊥
+IsOfService (status.TooLarge quantity.Way limit) = ⊥
+IsOfService status = Unit {0}
+
+-- those that a conversion ends with, which reads no script and imports nothing
+abbrev pub IsOfConversion : Status → Type 0
+IsOfConversion status.Done = Unit {0}
+IsOfConversion status.NoMemory = Unit {0}
+IsOfConversion status.OpenFault = Unit {0}
+IsOfConversion (status.ReadFault which.Map) = Unit {0}
+IsOfConversion status.WriteFault = Unit {0}
+IsOfConversion (status.BadMap (fault.Plain line byte kind)) = Unit {0}
+IsOfConversion (status.BadMap (fault.Pbf byte kind)) = Unit {0}
+IsOfConversion (status.TooLarge quantity.Map limit) = Unit {0}
+IsOfConversion (status.TooLarge quantity.Way limit) = Unit {0}
+IsOfConversion status = ⊥
+
+-- the statuses of what the words ask for
+abbrev pub IsStatusOf : Option Asked → Status → Type 0
+IsStatusOf None said = (said ≡ status.Usage) ⊎ (said ≡ status.NoMemory)
+IsStatusOf (Some (Serve name form)) status = IsOfService status
+IsStatusOf (Some (Convert name form to)) status = IsOfConversion status
+
+-- a count of the outside's faults stands as it stood
+abbrev pub IsCalm : ℕ → ℕ → Type 0
+IsCalm before now = Rose before now → ⊥
+
+-- a run came to its end, or memory was wanting
+abbrev pub IsDoneOrNoMemory : Status → Type 0
+IsDoneOrNoMemory said = (said ≡ status.Done) ⊎ (said ≡ status.NoMemory)
 
 -- the statuses that come before the script is looked at, but for want of memory
 abbrev pub IsOfMap : Status → Type 0
@@ -121,6 +155,11 @@ IsOfMap (status.ReadFault which.Map) = Unit {0}
 IsOfMap (status.BadMap fault) = Unit {0}
 IsOfMap (status.TooLarge quantity.Map limit) = Unit {0}
 IsOfMap status = ⊥
+
+-- those of them that reading the map gives, before it is imported
+abbrev pub IsOfReading : Status → Type 0
+IsOfReading (status.BadMap (fault.Import refusal)) = ⊥
+IsOfReading status = IsOfMap status
 
 -- those that reading the script gives
 abbrev pub IsOfScript : Status → Type 0
@@ -136,11 +175,21 @@ IsOfRun status.NoMemory = Unit {0}
 IsOfRun status.WriteFault = Unit {0}
 IsOfRun status = ⊥
 
--- the statuses after which something may stand behind the sink's old bytes
-abbrev pub IsWritten : Status → Type 0
-IsWritten status.Done = Unit {0}
-IsWritten status.WriteFault = Unit {0}
-IsWritten status = ⊥
+-- the statuses of a service after which nothing stands behind the sink's old bytes
+abbrev pub IsUnwritten : Status → Type 0
+IsUnwritten status.Done = ⊥
+IsUnwritten status.WriteFault = ⊥
+IsUnwritten status = Unit {0}
+
+-- those of a conversion
+abbrev pub IsUntouched : Status → Type 0
+IsUntouched status.NoMemory = ⊥
+IsUntouched status = IsUnwritten status
+
+-- those of what the words ask for
+abbrev pub IsSilent : Option Asked → Status → Type 0
+IsSilent (Some (Convert name form to)) status = IsUntouched status
+IsSilent asked status = IsUnwritten status
 
 -- the status that a reading of a plain map ends with
 abbrev pub status_of_plain : PlainFault → Status

@@ -1,14 +1,14 @@
 -- What stands while the commands of one actor are answered, one after another.
-use Rattle.std.specs.Prelude.{◌≡◌, ◌<◌, ◌≤◌, ℕ, Bool, false, List, [], ◌∷◌, ◌++◌, map, length, slice_index_or, All}
+use Rattle.std.specs.Prelude.{◌≡◌, ◌≤◌, ℕ, false, List, [], ◌++◌, map, length, slice_index_or, All}
 use Rattle.script_text.specs.declared.script.Command.{Command}
 use Rattle.script_text.specs.declared.script.Command.TheVariants as command
 use Rattle.script_text.specs.declared.script.Line.{Line}
 use Rattle.script_text.specs.declared.script.Script.{Script}
-use Rattle.script_text.specs.Scripts.{IsCommand, lines_of as all_lines}
+use Rattle.script_text.specs.Scripts.{IsCommand}
 use Rattle.traffic_core.specs.Lands.{Land}
 use Rattle.route_sessions.specs.Sessions.{InForce, IsInForce}
-use Rattle.gh_serve.specs.Replying.{IsRightReply, rule_after, rule_behind}
-use Rattle.gh_serve.specs.Fitting.{Answered, is_accepted, asked_by, AreRight, lines_text, lines_in_order}
+use Rattle.gh_serve.specs.Replying.{rule_after}
+use Rattle.gh_serve.specs.Fitting.{Answered, is_accepted, asked_by, AreRight, lines_text}
 
 -- a command that is run: of the first actor, and one that asks for routes or takes a model
 abbrev pub IsQuery : Command → Type 0

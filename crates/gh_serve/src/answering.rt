@@ -3,7 +3,7 @@ ghost use Rattle.std.specs.Prelude.{◌≡◌, ◌<◌, length, IfOk, OnOk, fals
 ghost use Rattle.weighting.specs.Roads.{opening_of};
 ghost use Rattle.traffic_core.specs.Places.{IsPlace};
 ghost use Rattle.script_text.specs.Scripts.{IsCommand};
-ghost use Rattle.route_sessions.specs.Sessions.{IsInForce, reply_to, rule_with};
+ghost use Rattle.route_sessions.specs.Sessions.{IsInForce};
 ghost use Rattle.gh_serve.specs.Replying as spec;
 ghost use Rattle.gh_serve.specs.Underway.{IsQuery};
 ghost use Rattle.gh_serve.specs.Fitting.{is_accepted};

@@ -6,6 +6,8 @@
 #![tactic(auto)]
 
 mod answering;
+mod commands;
+mod conversion;
 mod maps;
 mod replies;
 mod scripts;
@@ -15,6 +17,7 @@ mod texts;
 mod top;
 mod unrun;
 
+pub use conversion::convert;
 pub use status::{MapFault, Quantity, Status, Which};
 pub use texts::fault_text;
 pub use top::run;

@@ -1,5 +1,5 @@
 //! Maps, and their roads.
-ghost use Rattle.std.specs.Prelude.{◌≡◌, ◌≢◌, ◌≤◌, length, All, Ok, IfOk, IfErr, IsErrOf, IfSome};
+ghost use Rattle.std.specs.Prelude.{◌≡◌, ◌≤◌, length, All, Ok, IfOk, IfErr, IsErrOf, IfSome};
 ghost use Rattle.std.specs.List.{IsDistinct};
 ghost use Rattle.std.specs.Ordering.{int_eq};
 ghost use Rattle.gh_base.specs.Causes.{Rose};
@@ -7,7 +7,7 @@ ghost use Rattle.gh_base.specs.Places.{IsOnEarth};
 ghost use Rattle.gh_base.specs.declared.map.OsmNode.{OsmNode};
 ghost use Rattle.gh_base.specs.declared.map.OsmMap.{OsmMap};
 ghost use Rattle.traffic_core.specs.Lands.{AreAsLong};
-ghost use Rattle.gh_serve.specs.Statuses.{IsShortMap, IsInGrammar, IsMap, ReadsAs, MapSays, IsOfMap, status_of_plain, status_of_pbf};
+ghost use Rattle.gh_serve.specs.Statuses.{IsShortMap, ReadsAs, MapSays, IsOfReading, IsOfMap, status_of_plain, status_of_pbf};
 ghost use Rattle.gh_serve.specs.Serving.{AreRoadsIn, AreRoadsRead, IsRefusedFor};
 
 use crate::status::{MapFault, Quantity, Status, Which};
@@ -53,7 +53,7 @@ fn status_of_pbf(fault: PbfFault) -> Status
 fn read_plain_map<S: Source>(alloc: Global, source: &mut S) -> Result<OsmMap, Status>
     ensures map { IfOk result (λ map. IfSome (S.left source.old) (λ held. IsShortMap held × ReadsAs Form.Plain held map)) }
     ensures err { IfErr result (λ status. IfSome (S.left source.old) (MapSays status Form.Plain)) }
-    ensures early { IfErr result IsOfMap }
+    ensures early { IfErr result IsOfReading }
     ensures brought { IsErrOf result Status.OpenFault → ⊥ }
     ensures read { IsErrOf result (Status.ReadFault Which.Map) → Rose (S.faults source.old) (S.faults source.new) }
     ensures later { S.faults source.old ≤ S.faults source.new }
@@ -69,7 +69,7 @@ fn read_plain_map<S: Source>(alloc: Global, source: &mut S) -> Result<OsmMap, St
 fn read_pbf_map<S: Source>(alloc: Global, source: &mut S) -> Result<OsmMap, Status>
     ensures map { IfOk result (λ map. IfSome (S.left source.old) (λ held. IsShortMap held × ReadsAs Form.Pbf held map)) }
     ensures err { IfErr result (λ status. IfSome (S.left source.old) (MapSays status Form.Pbf)) }
-    ensures early { IfErr result IsOfMap }
+    ensures early { IfErr result IsOfReading }
     ensures brought { IsErrOf result Status.OpenFault → ⊥ }
     ensures read { IsErrOf result (Status.ReadFault Which.Map) → Rose (S.faults source.old) (S.faults source.new) }
     ensures later { S.faults source.old ≤ S.faults source.new }
@@ -90,7 +90,7 @@ pub(crate) fn read_map<S: Source>(
 ) -> Result<OsmMap, Status>
     ensures map { IfOk result (λ map. IfSome (S.left source.old) (λ held. IsShortMap held × ReadsAs form held map)) }
     ensures err { IfErr result (λ status. IfSome (S.left source.old) (MapSays status form)) }
-    ensures early { IfErr result IsOfMap }
+    ensures early { IfErr result IsOfReading }
     ensures brought { IsErrOf result Status.OpenFault → ⊥ }
     ensures read { IsErrOf result (Status.ReadFault Which.Map) → Rose (S.faults source.old) (S.faults source.new) }
     ensures later { S.faults source.old ≤ S.faults source.new }
@@ -112,7 +112,7 @@ fn bring_map<F: Files>(
 ) -> Result<OsmMap, Status>
     ensures map { IfOk result (λ map. IfSome (F.holds files.old name.now) (λ held. IsShortMap held × ReadsAs form held map)) }
     ensures err { IfErr result (λ status. IfSome (F.holds files.old name.now) (MapSays status form)) }
-    ensures early { IfErr result IsOfMap }
+    ensures early { IfErr result IsOfReading }
     ensures open { IsErrOf result Status.OpenFault → Rose (F.failed_brings files.old (F.mark_of files.old name.now)) (F.failed_brings files.new (F.mark_of files.old name.now)) }
     ensures read { IsErrOf result (Status.ReadFault Which.Map) → Rose (F.failed_takes files.old (F.mark_of files.old name.now)) (F.failed_takes files.new (F.mark_of files.old name.now)) }
     ensures on_earth { IfOk result (λ map. All (λ (node : OsmNode). IsOnEarth node.place) map.nodes) }

@@ -3,7 +3,7 @@ ghost use Rattle.std.specs.Prelude.{◌≡◌, ◌≤◌, length, None, Ok, IfOk
 ghost use Rattle.gh_base.specs.Causes.{Rose};
 ghost use Rattle.script_text.specs.Scripts.{IsScript};
 ghost use Rattle.gh_serve.specs.Unrun.{first_unrun};
-ghost use Rattle.gh_serve.specs.Statuses.{IsShortScript, IsScriptRead, IsOfScript, ScriptSays};
+ghost use Rattle.gh_serve.specs.Statuses.{IsScriptRead, IsOfScript, ScriptSays};
 
 use crate::status::{Quantity, Status, Which};
 use crate::unrun::first_unrun;

@@ -1,16 +1,16 @@
 //! The replies to a script, and the journal behind them.
-ghost use Rattle.std.specs.Prelude.{◌≡◌, ◌<◌, ◌≤◌, ◌^◌, length, OnOk, OnErr, IfOk, IfErr, IsErrOf, IsTrue, All, None, List, ℕ, ◌++◌, codes};
+ghost use Rattle.std.specs.Prelude.{◌≡◌, ◌<◌, length, OnOk, OnErr, IfErr, IsErrOf, IsTrue, All, List, ℕ, ◌++◌, codes};
 ghost use Rattle.std.specs.Io.KnownBytes.{Appends, Keeps};
 ghost use Rattle.gh_serve.specs.Statuses.{IsOfRun};
 ghost use Rattle.gh_base.specs.Causes.{Rose, AppendsFront};
 ghost use Rattle.script_text.specs.declared.script.Line.{Line};
 ghost use Rattle.weighting.specs.declared.profile.Profile.{Profile};
-ghost use Rattle.script_text.specs.Scripts.{IsCommand, IsScript};
+ghost use Rattle.script_text.specs.Scripts.{IsScript};
 ghost use Rattle.std.specs.List.{IsDistinct};
 ghost use Rattle.std.specs.Ordering.{int_eq};
 ghost use Rattle.traffic_core.specs.Lands.{AreAsLong, land_of};
 ghost use Rattle.gh_serve.specs.Fitting.{Fits};
-ghost use Rattle.gh_serve.specs.Underway.{IsQuery, IsRun, IsRunLine};
+ghost use Rattle.gh_serve.specs.Underway.{IsQuery, IsRun};
 
 use crate::replies::replies;
 use crate::status::Status;

@@ -25,6 +25,10 @@ const SLOW: &str = "n1 y0 x0\nn2 y0 x0.01\nw10 Thighway=tertiary,maxspeed=50 Nn1
 
 const WORDS: [&str; 5] = ["serve", "--map", "m", "--form", "plain"];
 
+const TO_PBF: [&str; 7] = ["convert", "--map", "m", "--form", "plain", "--to", "pbf"];
+
+const TO_PLAIN: [&str; 7] = ["convert", "--map", "m", "--form", "pbf", "--to", "plain"];
+
 const NONE: [u64; 0] = [];
 
 const FIRST: [u64; 1] = [1];
@@ -206,6 +210,77 @@ fn replies_are_those_worked_out_by_hand(rt: HostRuntime) -> Result<(), AllocErro
         let (text, held) = outcome(rt.alloc(), &plain_case(map.as_bytes(), script.as_bytes()))?;
         assert_eq!(rt; text.as_str(), "done");
         assert_eq!(rt; held.as_slice(), wanted.as_bytes(), "{script}");
+    }
+    Ok(())
+}
+
+#[test]
+fn a_map_is_converted_both_ways(rt: HostRuntime) -> Result<(), AllocError> {
+    let alloc = rt.alloc();
+    // A way whose node isn't there is in the grammar: nothing is imported.
+    let map = "n1 y0 x0\nn2 y0 x0.01\nw10 Thighway=secondary Nn1,n2\nw11 Nn1,n9\n";
+    let (text, file) = outcome(
+        alloc,
+        &Case {
+            words: &TO_PBF,
+            ..plain_case(map.as_bytes(), b"")
+        },
+    )?;
+    assert_eq!(rt; text.as_str(), "done");
+    let (text, held) = outcome(
+        alloc,
+        &Case {
+            words: &TO_PLAIN,
+            ..plain_case(file.as_slice(), b"")
+        },
+    )?;
+    assert_eq!(rt; text.as_str(), "done");
+    assert_eq!(rt; held.as_slice(), map.as_bytes());
+    Ok(())
+}
+
+#[test]
+fn a_conversion_that_is_refused_writes_nothing(rt: HostRuntime) -> Result<(), AllocError> {
+    for (words, map, map_fails, sink_fails, wanted) in [
+        (
+            &TO_PBF,
+            "n1 y0\n",
+            &NONE[..],
+            &NONE[..],
+            "gh: map line 1 byte 5: Missing",
+        ),
+        (
+            &TO_PLAIN,
+            "",
+            &NONE[..],
+            &NONE[..],
+            "gh: map byte 0: NoHeader",
+        ),
+        (
+            &TO_PBF,
+            MAP,
+            &FIRST[..],
+            &NONE[..],
+            "gh: cannot read the map",
+        ),
+        (
+            &TO_PLAIN,
+            "",
+            &NONE[..],
+            &FIRST[..],
+            "gh: map byte 0: NoHeader",
+        ),
+        (&TO_PBF, MAP, &NONE[..], &FIRST[..], "gh: cannot write"),
+    ] {
+        let case = Case {
+            words,
+            map_fails,
+            sink_fails,
+            ..plain_case(map.as_bytes(), b"")
+        };
+        let (text, held) = outcome(rt.alloc(), &case)?;
+        assert_eq!(rt; text.as_str(), wanted);
+        assert_eq!(rt; held.len(), 0, "{wanted}");
     }
     Ok(())
 }

@@ -1,5 +1,5 @@
 //! What a user reads where a run didn't end well.
-ghost use Rattle.std.specs.Prelude.{◌≡◌, ◌++◌, codes, decimal, IfOk, OnOk};
+ghost use Rattle.std.specs.Prelude.{◌≡◌, ◌++◌, IfOk, OnOk};
 ghost use Rattle.gh_serve.specs.Texts.{plain_word, pbf_word, pbf_more, script_word, quantity_word, place_text, import_word, import_more, missing_text, map_text, fault_text_of};
 
 use crate::status::{MapFault, Quantity, Status, Which};

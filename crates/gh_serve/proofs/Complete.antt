@@ -1,0 +1,95 @@
+-- Nothing but want of memory keeps a run from its end, where no call of the outside fails and all bytes are right.
+use Rattle.std.proofs.Common.{◌≡◌, refl, ℕ, List, Option, Some, None, inl, inr, arith}
+use Rattle.std.specs.Prelude.{IfSome}
+use Rattle.gh_base.specs.Causes.{Rose}
+use Rattle.gh_base.specs.declared.kinds.Form.{Form}
+use Rattle.gh_base.specs.declared.kinds.Form.TheVariants as forms
+use Rattle.gh_base.specs.declared.map.OsmMap.{OsmMap}
+use Rattle.gh_serve.specs.Statuses.{ReadsAs, IsFaultOf, IsScriptFault, IsMap, IsRunScript, IsOfService, IsOfConversion, MapSays, ScriptSays, IsCalm, IsDoneOrNoMemory}
+use Rattle.gh_serve.specs.Converting.{IsConvertible, ConversionSays}
+use Rattle.gh_serve.specs.declared.status.MapFault.{MapFault}
+use Rattle.gh_serve.specs.declared.status.MapFault.TheVariants as fault
+use Rattle.gh_serve.specs.declared.status.Status.{Status}
+use Rattle.gh_serve.specs.declared.status.Status.TheVariants as status
+use Rattle.gh_serve.specs.declared.status.Which.TheVariants as which
+use Rattle.gh_serve.specs.declared.status.Quantity.TheVariants as quantity
+use Rattle.gh_base.specs.declared.kinds.ScriptKind.{ScriptKind}
+
+-- the bytes are one map
+one_map : (form : Form) (held : List ℕ) (m n : OsmMap) → ReadsAs form held m → ReadsAs form held n → m ≡ n
+one_map forms.Plain held m n a b = cc
+one_map forms.Pbf held m n a b = cc
+
+-- a map that has roads has no fault
+no_fault : (f : MapFault) (form : Form) (held : List ℕ) → IsMap form held → IsFaultOf f form held → ⊥
+no_fault (fault.Plain line byte kind) forms.Plain held is b = let a = is.reads_as in cc
+no_fault (fault.Plain line byte kind) forms.Pbf held is b = b
+no_fault (fault.Pbf byte kind) forms.Plain held is b = b
+no_fault (fault.Pbf byte kind) forms.Pbf held is b = let a = is.reads_as in cc
+no_fault (fault.Import refusal) form held is b =
+    let same = one_map form held is.map b.0 is.reads_as b.1 in
+    let roads_are = is.roads_are in
+    let refused = b.2 in
+    cc
+
+no_script_fault : (line byte : ℕ) (kind : ScriptKind) (held : List ℕ) → IsRunScript held → IsScriptFault line byte kind held → ⊥
+no_script_fault line byte kind held is (inl f) = let a = is.reads_as in cc
+no_script_fault line byte kind held is (inr f) = let a = is.run in let b = f.2 in cc
+
+-- of what a service ends with, all but these two has a cause
+pub serves_to_the_end : (s : Status) (form : Form) (held bytes : List ℕ) → IsOfService s → MapSays s form held → ScriptSays s bytes → IsMap form held → IsRunScript bytes →
+    (s ≡ status.OpenFault → ⊥) → (s ≡ status.ReadFault which.Map → ⊥) → (s ≡ status.ReadFault which.Script → ⊥) → (s ≡ status.WriteFault → ⊥) → IsDoneOrNoMemory s
+serves_to_the_end status.Done form held bytes of map_says script_says is_map is_script no_open no_map no_script no_write = inl refl
+serves_to_the_end status.NoMemory form held bytes of map_says script_says is_map is_script no_open no_map no_script no_write = inr refl
+serves_to_the_end status.OpenFault form held bytes of map_says script_says is_map is_script no_open no_map no_script no_write = absurd (no_open refl)
+serves_to_the_end (status.ReadFault which.Map) form held bytes of map_says script_says is_map is_script no_open no_map no_script no_write = absurd (no_map refl)
+serves_to_the_end (status.ReadFault which.Script) form held bytes of map_says script_says is_map is_script no_open no_map no_script no_write = absurd (no_script refl)
+serves_to_the_end status.WriteFault form held bytes of map_says script_says is_map is_script no_open no_map no_script no_write = absurd (no_write refl)
+serves_to_the_end (status.BadMap f) form held bytes of map_says script_says is_map is_script no_open no_map no_script no_write = absurd (no_fault f form held is_map map_says.1)
+serves_to_the_end (status.BadScript line byte kind) form held bytes of map_says script_says is_map is_script no_open no_map no_script no_write =
+    absurd (no_script_fault line byte kind bytes is_script script_says.1)
+serves_to_the_end (status.TooLarge quantity.Map limit) form held bytes of map_says script_says is_map is_script no_open no_map no_script no_write =
+    absurd (let short = is_map.short in omega (arith, map_says.0, map_says.1))
+serves_to_the_end (status.TooLarge quantity.Script limit) form held bytes of map_says script_says is_map is_script no_open no_map no_script no_write =
+    absurd (let short = is_script.short in omega (arith, script_says.0, script_says.1))
+serves_to_the_end status.Usage form held bytes of map_says script_says is_map is_script no_open no_map no_script no_write = absurd of
+serves_to_the_end (status.TooLarge quantity.Labels limit) form held bytes of map_says script_says is_map is_script no_open no_map no_script no_write = absurd of
+serves_to_the_end (status.TooLarge quantity.Way limit) form held bytes of map_says script_says is_map is_script no_open no_map no_script no_write = absurd of
+
+-- nor of what a conversion ends with
+pub converts_to_the_end : (s : Status) (form to : Form) (held : List ℕ) → IsOfConversion s → ConversionSays s form to held → IsConvertible form to held →
+    (s ≡ status.OpenFault → ⊥) → (s ≡ status.ReadFault which.Map → ⊥) → (s ≡ status.WriteFault → ⊥) → IsDoneOrNoMemory s
+converts_to_the_end status.Done form to held of says is no_open no_map no_write = inl refl
+converts_to_the_end status.NoMemory form to held of says is no_open no_map no_write = inr refl
+converts_to_the_end status.OpenFault form to held of says is no_open no_map no_write = absurd (no_open refl)
+converts_to_the_end (status.ReadFault which.Map) form to held of says is no_open no_map no_write = absurd (no_map refl)
+converts_to_the_end status.WriteFault form to held of says is no_open no_map no_write = absurd (no_write refl)
+converts_to_the_end (status.BadMap (fault.Plain line byte kind)) forms.Plain to held of says is no_open no_map no_write = absurd (let a = is.reads_as in let b = says.1 in cc)
+converts_to_the_end (status.BadMap (fault.Pbf byte kind)) forms.Pbf to held of says is no_open no_map no_write = absurd (let a = is.reads_as in let b = says.1 in cc)
+converts_to_the_end (status.TooLarge quantity.Map limit) form to held of says is no_open no_map no_write = absurd (let short = is.short in omega (arith, says.0, says.1))
+converts_to_the_end (status.TooLarge quantity.Way limit) form to held of says is no_open no_map no_write =
+    absurd (let large = says.1 in large.unfit (rw (one_map form held large.map is.map large.reads_as is.reads_as) is.fits_in))
+converts_to_the_end status.Usage form to held of says is no_open no_map no_write = absurd of
+converts_to_the_end (status.ReadFault which.Script) form to held of says is no_open no_map no_write = absurd of
+converts_to_the_end (status.BadScript line byte kind) form to held of says is no_open no_map no_write = absurd of
+converts_to_the_end (status.BadMap (fault.Import refusal)) form to held of says is no_open no_map no_write = absurd of
+converts_to_the_end (status.TooLarge quantity.Script limit) form to held of says is no_open no_map no_write = absurd of
+converts_to_the_end (status.TooLarge quantity.Labels limit) form to held of says is no_open no_map no_write = absurd of
+converts_to_the_end (status.BadMap (fault.Plain line byte kind)) forms.Pbf to held of says is no_open no_map no_write = absurd (says.1)
+converts_to_the_end (status.BadMap (fault.Pbf byte kind)) forms.Plain to held of says is no_open no_map no_write = absurd (says.1)
+
+-- with the bytes where they are told, and the counts
+pub serves_complete : (s : Status) (form : Form) (holds left : Option (List ℕ)) (b c t u i j k l : ℕ) → IsOfService s → IfSome holds (MapSays s form) → IfSome left (ScriptSays s) →
+    (s ≡ status.OpenFault → Rose b c) → (s ≡ status.ReadFault which.Map → Rose t u) → (s ≡ status.ReadFault which.Script → Rose i j) → (s ≡ status.WriteFault → Rose k l) →
+    IfSome holds (λ held. IfSome left (λ bytes. IsMap form held → IsRunScript bytes → IsCalm b c → IsCalm t u → IsCalm i j → IsCalm k l → IsDoneOrNoMemory s))
+serves_complete s form None left b c t u i j k l of says script_says bring read_map read_script write = tt
+serves_complete s form (Some held) None b c t u i j k l of says script_says bring read_map read_script write = tt
+serves_complete s form (Some held) (Some bytes) b c t u i j k l of says script_says bring read_map read_script write = λ is_map is_script no_b no_t no_i no_k.
+    serves_to_the_end s form held bytes of says script_says is_map is_script (λ e. no_b (bring e)) (λ e. no_t (read_map e)) (λ e. no_i (read_script e)) (λ e. no_k (write e))
+
+pub converts_complete : (s : Status) (form to : Form) (holds : Option (List ℕ)) (b c t u k l : ℕ) → IsOfConversion s → IfSome holds (ConversionSays s form to) →
+    (s ≡ status.OpenFault → Rose b c) → (s ≡ status.ReadFault which.Map → Rose t u) → (s ≡ status.WriteFault → Rose k l) →
+    IfSome holds (λ held. IsConvertible form to held → IsCalm b c → IsCalm t u → IsCalm k l → IsDoneOrNoMemory s)
+converts_complete s form to None b c t u k l of says bring read write = tt
+converts_complete s form to (Some held) b c t u k l of says bring read write = λ is no_b no_t no_k.
+    converts_to_the_end s form to held of says is (λ e. no_b (bring e)) (λ e. no_t (read e)) (λ e. no_k (write e))
