@@ -177,7 +177,9 @@ fn a_file_has_its_first_fault(rt: HostRuntime) {
     for (bytes, at, kind) in [
         (b"\0\x01\0\0".as_slice(), 0u64, "HeaderTooLong"),
         (b"\0\0\xff\xff".as_slice(), 4, "Truncated"),
+        (b"\0\0\0\x01\xff".as_slice(), 4, "BadWire"),
         (b"\0\0\0\x01\x03".as_slice(), 4, "BadWire"),
+        (b"\0\0\0\0".as_slice(), 4, "Missing"),
         (b"\0\0\0\x02\x18\0".as_slice(), 4, "Missing"),
         (b"\0\0\0\x0b\x0a\x09OSMHeader".as_slice(), 4, "Missing"),
         (
