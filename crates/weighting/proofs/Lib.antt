@@ -2,3 +2,4 @@ pub mod Falls
 mod Made
 mod Stored
 pub mod Turned
+mod Unmoved

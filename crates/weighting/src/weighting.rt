@@ -70,6 +70,10 @@ fn runs_of(model: &CustomModel, graph: &BaseGraph, edge: DirEdge, before: Runs) 
     ensures speed { result.speed ≡ spec.run_of running.Speed model.now graph.now.lists edge before.speed }
     ensures priority { result.priority ≡ spec.run_of running.Priority model.now graph.now.lists edge before.priority }
 {
+    // Most models of most queries have no statement, and this is asked at every hop.
+    if model.speed.is_empty() && model.priority.is_empty() {
+        return before;
+    }
     let values = graph.values(edge.edge, edge.reverse);
     let areas = areas_of(model, graph, edge.edge);
     Runs {
