@@ -42,6 +42,8 @@ struct Case<'a> {
     script: &'a [u8],
     script_fails: &'a [u64],
     sink_fails: &'a [u64],
+    /// The most bytes that a call of a source or of the sink moves.
+    step: usize,
 }
 
 const fn plain_case<'a>(map: &'a [u8], script: &'a [u8]) -> Case<'a> {
@@ -52,6 +54,7 @@ const fn plain_case<'a>(map: &'a [u8], script: &'a [u8]) -> Case<'a> {
         script,
         script_fails: &NONE,
         sink_fails: &NONE,
+        step: 5,
     }
 }
 
@@ -66,9 +69,10 @@ fn owned(alloc: Global, words: &[&str]) -> Result<Vec<String>, AllocError> {
 /// How a run ended, in the words that a user reads, and what the sink holds.
 fn outcome(alloc: Global, case: &Case) -> Result<(String, Vec<u8>), AllocError> {
     let words = owned(alloc, case.words)?;
-    let mut files = MemFiles::new("m", case.map, &NONE, 5, case.map_fails);
-    let mut script = MemSource::new(case.script, 4096, case.script_fails);
-    let mut sink = MemSink::new(alloc, 3, case.sink_fails);
+    let step = case.step.max(1);
+    let mut files = MemFiles::new("m", case.map, &NONE, step, case.map_fails);
+    let mut script = MemSource::new(case.script, step, case.script_fails);
+    let mut sink = MemSink::new(alloc, step, case.sink_fails);
     let status = run(
         alloc,
         words.as_slice(),
@@ -163,11 +167,56 @@ fn each_refusal_has_its_text_and_writes_nothing(rt: HostRuntime) -> Result<(), A
     Ok(())
 }
 
+/// Where each call moves a byte, the sink has all bytes that were given before the call that failed.
+#[test]
+fn a_call_that_fails_is_told_and_what_was_written_stands(
+    rt: HostRuntime,
+) -> Result<(), AllocError> {
+    let script = "actor a\na route n1 n3\n";
+    let whole = "a 1 0 route 133434 2223898 2 0+ 1+\njournal 0\n";
+    let case = Case {
+        step: 1,
+        ..plain_case(MAP.as_bytes(), script.as_bytes())
+    };
+    for place in 0..whole.len() {
+        let fails = [place as u64 + 1];
+        let sink_fails = fails.as_slice();
+        let (text, held) = outcome(rt.alloc(), &Case { sink_fails, ..case })?;
+        assert_eq!(rt; text.as_str(), "gh: cannot write");
+        assert_eq!(rt; held.as_slice(), &whole.as_bytes()[..place]);
+    }
+    for place in 0..MAP.len() {
+        let fails = [place as u64 + 1];
+        let map_fails = fails.as_slice();
+        let (text, held) = outcome(rt.alloc(), &Case { map_fails, ..case })?;
+        assert_eq!(rt; text.as_str(), "gh: cannot read the map");
+        assert_eq!(rt; held.len(), 0);
+    }
+    for place in 0..script.len() {
+        let fails = [place as u64 + 1];
+        let script_fails = fails.as_slice();
+        let (text, held) = outcome(
+            rt.alloc(),
+            &Case {
+                script_fails,
+                ..case
+            },
+        )?;
+        assert_eq!(rt; text.as_str(), "gh: cannot read the script");
+        assert_eq!(rt; held.len(), 0);
+    }
+    Ok(())
+}
+
 #[test]
 fn a_script_of_one_byte_too_many_is_too_large(rt: HostRuntime) -> Result<(), AllocError> {
     let alloc = rt.alloc();
     let newlines = vec![in alloc; b'\n'; 16_777_217]?;
-    let (text, held) = outcome(alloc, &plain_case(MAP.as_bytes(), newlines.as_slice()))?;
+    let case = Case {
+        step: 4096,
+        ..plain_case(MAP.as_bytes(), newlines.as_slice())
+    };
+    let (text, held) = outcome(alloc, &case)?;
     assert_eq!(rt; text.as_str(), "gh: script bytes over 16777216");
     assert_eq!(rt; held.len(), 0);
     Ok(())
