@@ -2,6 +2,9 @@ pub mod Lands
 pub mod Spots
 pub mod Places
 pub mod Trips
+pub mod History
+pub mod Standing
+pub mod Truth
 pub mod Grounds
 pub mod Answers
 pub mod Laws

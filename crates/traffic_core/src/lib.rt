@@ -7,6 +7,7 @@
 //! on `alt_search` for least walks and on `label_certificate` for labels.
 #![tactic(auto)]
 
+mod entry;
 mod ground;
 mod laws;
 mod lengths;
@@ -19,6 +20,7 @@ mod tests;
 mod towers;
 mod usable;
 
+pub use entry::{Entry, Shared, What};
 pub use gh_base::{Place, RouteAnswer};
 pub use ground::Ground;
 pub use laws::{answers_agree, lengths_are_those_of_pieces};
