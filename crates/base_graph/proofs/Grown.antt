@@ -128,7 +128,7 @@ place_kept graph place facts there room =
       few_places = omega arith;
       few_edges = facts.few_edges;
       places = All-push IsOnEarth graph.places place facts.places there;
-      edges = All-weaker (IsEdge (length graph.places)) (IsEdge (length (graph.places ++ place ∷ []))) (λ edge e. let b = e.base in let a = e.adjacent in record { base = omega arith; adjacent = omega arith; mm = e.mm; between = e.between }) graph.edges facts.edges;
+      edges = All-weaker (IsEdge (length graph.places)) (IsEdge (length (graph.places ++ place ∷ []))) (λ edge e. let b = e.base in let a = e.adjacent in record { base = omega arith; adjacent = omega arith; mm = e.mm; between = e.between; values = e.values }) graph.edges facts.edges;
       lists = length_push graph.around [] ∙ ap (λ (n : ℕ). n + 1) facts.lists ∙ sym l;
       around = λ node by h.
           elim (cases_lt node (length graph.places)) [

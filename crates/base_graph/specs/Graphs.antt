@@ -4,7 +4,7 @@ use Rattle.gh_base.specs.declared.edges.NodeId.{NodeId}
 use Rattle.gh_base.specs.declared.edges.DirEdge.{DirEdge}
 use Rattle.gh_base.specs.declared.map.Point.{Point}
 use Rattle.gh_base.specs.Places.{IsOnEarth}
-use Rattle.encoded_values.specs.Values.{TwoValues, Values}
+use Rattle.encoded_values.specs.Values.{TwoValues, Values, AreTwoInRange}
 
 -- an edge: its two ends, its length in mm, the points between the ends in order, and its values
 pub record Edge : Type 0 where
@@ -91,12 +91,13 @@ points_along graph edge = place_of graph edge.base.0 ∷ edge.between ++ place_o
 abbrev pub points_of : Graph → ℕ → List Point
 points_of graph n = points_along graph (edge_at graph.edges n)
 
--- an edge between two of so many towers, over points of the earth
+-- an edge between two of so many towers, over points of the earth, with values in their ranges
 pub record IsEdge (towers : ℕ) (edge : Edge) : Type 0 where
   pub base : edge.base.0 < towers
   pub adjacent : edge.adjacent.0 < towers
   pub mm : edge.mm < 2 ^ 32
   pub between : All IsOnEarth edge.between
+  pub values : AreTwoInRange edge.values
 
 -- the facts of a base graph: towers stand on the earth, edges join towers, and round each tower stands each directed edge that starts there, once, and no other
 pub record IsGraph (graph : Graph) : Type 0 where

@@ -7,7 +7,7 @@ ghost use Rattle.base_graph.specs.Facts.{IsGraph-prop};
 use crate::around::Around;
 use crate::faults::GraphFault;
 use crate::lists::{Lists, Stored};
-use encoded_values::{DirValues, EdgeValues};
+use encoded_values::{DirValues, EdgeValues, both_are_in_range};
 use gh_base::{DirEdge, EdgeId, NoMemory, NodeId, Point, Shape, Shapes};
 use std::alloc::Global;
 
@@ -92,6 +92,8 @@ impl BaseGraph {
         if count == MOST_EDGES {
             return Err(GraphFault::TooManyEdges);
         }
+        // The type knows that the values are in their ranges; from here on the graph knows it too.
+        both_are_in_range(values);
         self.lists.add_edge(base, adjacent, mm, between, values)?;
         Ok(EdgeId(count as u32))
     }

@@ -27,7 +27,7 @@ pub record TwoValues : Type 0 where
   pub forward : Values
   pub reverse : Values
 
--- each value is one of its kind, and a vehicle has access where its speed is above 0
+-- each value is one of its kind, speeds fit a byte, and a vehicle has access where its speed is above 0
 pub record AreInRange (values : Values) : Type 0 where
   pub road_class : values.road_class < 16
   pub surface : values.surface < 14
@@ -35,6 +35,10 @@ pub record AreInRange (values : Values) : Type 0 where
   pub some_lane : 1 ≤ values.lanes
   pub few_lanes : values.lanes ≤ 7
   pub max_speed : 1 ≤ values.max_speed
+  pub max_byte : values.max_speed ≤ 255
+  pub car_byte : values.car_speed ≤ 255
+  pub bike_byte : values.bike_speed ≤ 255
+  pub foot_byte : values.foot_speed ≤ 255
   pub car : values.car_access ≡ nat_lt 0 values.car_speed
   pub bike : values.bike_access ≡ nat_lt 0 values.bike_speed
   pub foot : values.foot_access ≡ nat_lt 0 values.foot_speed
@@ -48,6 +52,12 @@ pub record AreAlike (a b : Values) : Type 0 where
   pub toll : a.toll ≡ b.toll
   pub lanes : a.lanes ≡ b.lanes
   pub max_speed : a.max_speed ≡ b.max_speed
+
+-- both directions are in their ranges, and alike where no direction counts
+pub record AreTwoInRange (values : TwoValues) : Type 0 where
+  pub forward : AreInRange values.forward
+  pub reverse : AreInRange values.reverse
+  pub alike : AreAlike values.forward values.reverse
 
 -- the base speed of a vehicle, in km/h
 abbrev pub speed_of : Vehicle → Values → ℕ

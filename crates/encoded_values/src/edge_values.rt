@@ -1,6 +1,6 @@
 //! Values of one direction, and of both.
 ghost use Rattle.std.specs.Prelude.{◌≡◌, ◌≤◌, ◌*◌};
-ghost use Rattle.encoded_values.specs.Values.{opening, speed_of};
+ghost use Rattle.encoded_values.specs.Values.{AreInRange, AreTwoInRange, opening, speed_of};
 
 use gh_base::Vehicle;
 use std::marker::Model;
@@ -73,6 +73,24 @@ impl DirValues {
             Vehicle::Foot => self.foot_speed,
         }
     }
+}
+
+/// The values of a direction are in their ranges. It reads the fields, where that is known, and does nothing else.
+pub fn values_are_in_range(values: &DirValues)
+    ensures { AreInRange values.now }
+{
+    let _max = values.max_speed;
+    let _car = values.car_speed;
+    let _bike = values.bike_speed;
+    let _foot = values.foot_speed;
+}
+
+/// The values of both directions are in their ranges, and alike where no direction counts.
+pub fn both_are_in_range(values: &EdgeValues)
+    ensures { AreTwoInRange values.now }
+{
+    values_are_in_range(&values.forward);
+    values_are_in_range(&values.reverse);
 }
 
 /// The traffic limit that a direction opens with, in milli-km/h: that of its fastest vehicle, and 0

@@ -7,5 +7,7 @@
 mod edge_values;
 mod words;
 
-pub use edge_values::{DirValues, EdgeValues, MISSING_MAX_SPEED, opening_limit};
+pub use edge_values::{
+    DirValues, EdgeValues, MISSING_MAX_SPEED, both_are_in_range, opening_limit, values_are_in_range,
+};
 pub use words::{RoadClass, Surface, Toll, road_class_named, surface_named, toll_named};

@@ -3,7 +3,7 @@ ghost use Rattle.std.specs.Prelude.{◌≡◌, ◌≢◌, ◌<◌, ◌≤◌, �
 ghost use Rattle.std.specs.Str.{bytes_eq};
 ghost use Rattle.std.specs.Io.{ReadsAtMost};
 ghost use Rattle.std.specs.Io.KnownBytes.{ReadConsumes, WriteAppends};
-ghost use Rattle.gh_base.specs.Causes.{HasCause, Rose};
+ghost use Rattle.gh_base.specs.Causes.{HasCause, Rose, one_more};
 
 use crate::faults::Failed;
 use crate::outside::{Files, Gate, Sink, Source};
@@ -57,6 +57,9 @@ impl<'a> Source for MemSource<'a> {
         ensures bytes { ReadConsumes (Some self.old.bytes.now) (Some self.new.bytes.now) result buf.new }
         ensures cause { HasCause self.old.faults self.new.faults result }
         ensures mark { self.new.mark ≡ self.old.mark }
+        // A call that fails counts one fault, and one that goes well counts none.
+        ensures counted { OnErr result (self.new.faults ≡ one_more self.old.faults) }
+        ensures uncounted { OnOk result (self.new.faults ≡ self.old.faults) }
         // It fails exactly at the calls listed, and else moves as much as it can.
         ensures listed { IsErr result ↔ Contains (source_plan self.old).fails (next_call (source_plan self.old)) }
         ensures most { IfOk result (λ n. n ≡ min (source_plan self.old).step (min (length buf.old) (length self.old.bytes.now))) }
@@ -126,6 +129,9 @@ impl<'a> Sink for MemSink<'a> {
         ensures bound { IfOk result (λ n. n ≤ length piece.now) }
         ensures bytes { WriteAppends (Some self.old.bytes.items) (Some self.new.bytes.items) result piece.now }
         ensures cause { HasCause self.old.faults self.new.faults result }
+        // A call that fails counts one fault, and one that goes well counts none.
+        ensures counted { OnErr result (self.new.faults ≡ one_more self.old.faults) }
+        ensures uncounted { OnOk result (self.new.faults ≡ self.old.faults) }
         // It fails at the calls listed, and else only for want of memory; it takes as much as it can.
         ensures listed { Contains (sink_plan self.old).fails (next_call (sink_plan self.old)) → IsErr result }
         ensures most { IfOk result (λ n. n ≡ min (sink_plan self.old).step (length piece.now)) }
@@ -161,7 +167,7 @@ impl<'a> MemFiles<'a> {
     ghost use Rattle.gh_base.specs.Memory.{bring_plan, take_plan, own_name};
 
     /// A name with these bytes, whose bringing fails at the calls of the numbers `fails`. Its sources move at most `step`
-    /// bytes in a call and fail at the calls of the numbers `take_fails`.
+    /// bytes in a call and fail at the calls of the numbers `take_fails`. No other name is there.
     pub fn new(
         name: &'a str,
         bytes: &'a [u8],
@@ -174,7 +180,9 @@ impl<'a> MemFiles<'a> {
         ensures bring_plan { bring_plan result ≡ record { step = step; fails = fails.now; calls = 0 } }
         ensures take_plan { take_plan result ≡ record { step = step; fails = take_fails.now; calls = 0 } }
         ensures holds { ⟦<MemFiles<'a> as Files>⟧.holds result name.now ≡ Some bytes.now }
+        ensures others { (other : List ℕ) → other ≢ name.now → ⟦<MemFiles<'a> as Files>⟧.holds result other ≡ None }
         ensures mark { ⟦<MemFiles<'a> as Files>⟧.mark_of result name.now ≡ 1 }
+        ensures marks { (other : List ℕ) → other ≢ name.now → ⟦<MemFiles<'a> as Files>⟧.mark_of result other ≡ 0 }
         ensures brings { (m : ℕ) → ⟦<MemFiles<'a> as Files>⟧.failed_brings result m ≡ 0 }
         ensures takes { (m : ℕ) → ⟦<MemFiles<'a> as Files>⟧.failed_takes result m ≡ 0 }
     {
@@ -220,6 +228,9 @@ impl<'a> Files for MemFiles<'a> {
         ensures source { IfOk result (λ s. source_plan s ≡ take_plan self.old) }
         ensures plan { bring_plan self.new ≡ called (bring_plan self.old) }
         ensures same { (own_name self.new ≡ own_name self.old) × (take_plan self.new ≡ take_plan self.old) }
+        // A call that fails counts one fault, of this name's mark alone, and one that goes well counts none.
+        ensures counted { OnErr result (failed_brings_at self.new (mark_by_name self.old name.now) ≡ one_more (failed_brings_at self.old (mark_by_name self.old name.now))) }
+        ensures others { (m : ℕ) → (m == 1) ≢ (mark_by_name self.old name.now == 1) → failed_brings_at self.new m ≡ failed_brings_at self.old m }
         ensures free { OnOk result ((m : ℕ) → failed_brings_at self.new m ≡ failed_brings_at self.old m) }
     {
         self.calls = self.calls.saturating_add(1);
@@ -249,7 +260,7 @@ impl<'a> Files for MemFiles<'a> {
         ensures kept { (n : List ℕ) → held_by_name self.new n ≡ held_by_name self.old n }
         ensures marks { (n : List ℕ) → mark_by_name self.new n ≡ mark_by_name self.old n }
         // It counts one fault, and it is no bringing.
-        ensures once { 0 < source.entry.faults → failed_takes_at self.new source.entry.mark ≡ min (failed_takes_at self.old source.entry.mark + 1) (2 ^ 64 - 1) }
+        ensures once { 0 < source.entry.faults → failed_takes_at self.new source.entry.mark ≡ one_more (failed_takes_at self.old source.entry.mark) }
         ensures others { (m : ℕ) → (m == 1) ≢ (source.entry.mark == 1) → failed_takes_at self.new m ≡ failed_takes_at self.old m }
         ensures plan { bring_plan self.new ≡ bring_plan self.old }
         ensures same { (own_name self.new ≡ own_name self.old) × (take_plan self.new ≡ take_plan self.old) }

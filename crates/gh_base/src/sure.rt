@@ -125,6 +125,7 @@ impl<'a> SureFiles<'a> {
         ensures holds { ⟦<SureFiles<'a> as Files>⟧.holds result name.now ≡ Some bytes.now }
         ensures others { (other : List ℕ) → other ≢ name.now → ⟦<SureFiles<'a> as Files>⟧.holds result other ≡ Some [] }
         ensures mark { ⟦<SureFiles<'a> as Files>⟧.mark_of result name.now ≡ 1 }
+        ensures marks { (other : List ℕ) → other ≢ name.now → ⟦<SureFiles<'a> as Files>⟧.mark_of result other ≡ 0 }
         ensures brings { (m : ℕ) → ⟦<SureFiles<'a> as Files>⟧.failed_brings result m ≡ 0 }
         ensures takes { (m : ℕ) → ⟦<SureFiles<'a> as Files>⟧.failed_takes result m ≡ 0 }
     {

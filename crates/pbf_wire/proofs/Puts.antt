@@ -1,8 +1,9 @@
 -- A varint, written byte by byte and read again.
 use Rattle.std.proofs.lemmas.Bool.Decides.{nat_tests}
 use Rattle.std.proofs.Math.Nat.{pow-suc}
-use Rattle.std.proofs.Common.{◌≡◌, ◌∙◌, ℕ, ◌+◌, ◌-◌, ◌*◌, ◌/◌, ◌%◌, ◌^◌, ◌<◌, ◌≤◌, zero, suc, List, [], ◌∷◌, ◌++◌, length, Ok, true, false, ltb, leb, eqb, refl, sym, add-one, arith, append_assoc, append-nil, length-append, Bool}
+use Rattle.std.proofs.Common.{◌≡◌, ◌∙◌, ℕ, ◌+◌, ◌-◌, ◌*◌, ◌/◌, ◌%◌, ◌^◌, ◌<◌, ◌≤◌, zero, suc, List, take, ap, [], ◌∷◌, ◌++◌, length, Ok, true, false, ltb, leb, eqb, refl, sym, add-one, arith, append_assoc, append-nil, length-append, Bool}
 use Rattle.std.proofs.Math.Seq.{drop-append_seam}
+use Rattle.std.proofs.lemmas.List.{take_at}
 use Rattle.pbf_wire.specs.Wire.{varint_in, varint_front, varint_at, value_of, behind_key, field_of}
 use Rattle.pbf_wire.specs.Put.{bytes_in, varint_bytes, bytes_field, Extends}
 
@@ -112,3 +113,7 @@ extends_more old new bytes e = record { more = e.more ++ bytes; joined = rw e.jo
 
 pub extends_front : (old bytes new : List ℕ) → Extends (old ++ bytes) new → Extends old new
 extends_front old bytes new e = record { more = bytes ++ e.more; joined = e.joined ∙ append_assoc old bytes e.more }
+
+-- what was put behind the old bytes is cut off again
+pub extends_cut : (old new : List ℕ) → Extends old new → take (length old) new ≡ old
+extends_cut old new e = ap (take (length old)) e.joined ∙ take_at old e.more (length old) refl

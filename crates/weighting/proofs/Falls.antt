@@ -24,6 +24,7 @@ use Rattle.weighting.specs.Rules.{Rule, alone}
 use Rattle.weighting.specs.Weights.{values_at, areas_in, list_of, run_of, run_if, run_by, first_speed, first_priority, influence_by, time_at, distance_share, weight_if, weight_by, WeightsFit}
 use Rattle.weighting.specs.Roads.{hop_of, network_of, opposite}
 use Rattle.weighting.specs.RoadFacts.{each_hop, hop_to}
+use Rattle.weighting.proofs.Stored.{values_are_stored}
 use Rattle.weighting.specs.SlowRoads.{OnlySlows, IsSlowing, IsNoneOrAtLeast, HasStored, AreNowhereAbove, NoWeightFalls, NoHopIsFaster}
 use Rattle.weighting.proofs.Turned.{contains_map}
 
@@ -174,7 +175,8 @@ hop_falls Back rule graph limits earlier slowing stored above by there =
     no_weight_falls rule graph back (limits back) (earlier back) (edge_at graph.edges by.edge.0).mm slowing (stored back there) (above back there)
 
 pub no_hop_is_faster : NoHopIsFaster
-no_hop_is_faster side rule graph limits earlier slowing facts stored above node hop c some =
+no_hop_is_faster side rule graph limits earlier slowing facts above node hop c some =
+    let stored = values_are_stored graph facts in
     each_hop side rule limits graph node
     (λ (h : Hop). IsSome h.weight → (other : Hop) × Contains (hops_from (network_of side (alone rule) earlier graph) node) other × IsSome other.weight × (other.to.0 ≡ h.to.0) × (cost other ≤ cost h))
     (λ by b is.

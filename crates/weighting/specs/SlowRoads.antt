@@ -28,6 +28,10 @@ IsNoneOrAtLeast weight base = IfSome weight (λ w. (b : ℕ) × (base ≡ Some b
 abbrev pub HasStored : Graph → Type 0
 HasStored graph = (by : DirEdge) → by.edge.0 < length graph.edges → AreStored (values_at graph by)
 
+-- they are in every graph
+abbrev pub ValuesAreStored : Type 0
+ValuesAreStored = (graph : Graph) → IsGraph graph → HasStored graph
+
 -- no directed edge's limit is above the earlier one
 abbrev pub AreNowhereAbove : Graph → (DirEdge → ℕ) → (DirEdge → ℕ) → Type 0
 AreNowhereAbove graph limits earlier = (by : DirEdge) → by.edge.0 < length graph.edges → limits by ≤ earlier by
@@ -41,7 +45,7 @@ NoWeightFalls = (rule : Rule) (graph : Graph) (by : DirEdge) (limit earlier mm :
 -- so no hop is faster than under the profile alone, on either side
 abbrev pub NoHopIsFaster : Type 0
 NoHopIsFaster = (side : Side) (rule : Rule) (graph : Graph) (limits earlier : DirEdge → ℕ) → IsSlowing rule →
-    IsGraph graph → HasStored graph → AreNowhereAbove graph limits earlier →
+    IsGraph graph → AreNowhereAbove graph limits earlier →
     IsNoFaster (network_of side (alone rule) earlier graph) (network_of side rule limits graph)
 
 -- the hops of the one side are those of the other, turned round

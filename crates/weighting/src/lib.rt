@@ -15,7 +15,8 @@ mod weighting;
 
 pub use gh_base::Vehicle;
 pub use laws::{
-    graph_values_are_stored, no_hop_is_faster, no_weight_falls, sides_are_turned, weights_fit,
+    graph_values_are_stored, no_hop_is_faster, no_weight_falls, sides_are_turned,
+    values_are_stored_in_each_graph, weights_fit,
 };
 pub use opening::Opening;
 pub use profile::{Profile, Profiles};

@@ -11,6 +11,6 @@ invariant_of-self c =
     let between = c.requires.between in
     record {
       facts = edge_kept_by graph _ _ _ facts
-          (record { base = c.requires.base; adjacent = c.requires.adjacent; mm = omega arith; between = between }) room
+          (record { base = c.requires.base; adjacent = c.requires.adjacent; mm = omega arith; between = between; values = c.both_are_in_range.ensures }) room
           c.add_edge.ensures.ok c.add_edge.ensures.err;
     }

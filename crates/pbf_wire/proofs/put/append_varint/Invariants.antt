@@ -1,7 +1,7 @@
 use Rattle.std.proofs.Common.{◌++◌}
 use Rattle.pbf_wire.specs.Put.{varint_bytes, Extends}
 use Rattle.pbf_wire.proofs.Puts.{IsPut}
-use Rattle.pbf_wire.proofs.put.put_varint.Given as goal
+use Rattle.pbf_wire.proofs.put.append_varint.Given as goal
 
 abbrev pub invariant-bytes : goal.invariant-bytes
 invariant-bytes l = record {
