@@ -2,10 +2,11 @@
 ghost use Rattle.std.specs.Prelude.{◌≡◌, ◌+◌, ◌^◌, ◌<◌, ◌≤◌, ℕ, Some, List, IfOk};
 ghost use Rattle.gh_base.specs.declared.edges.Hop.{Hop};
 ghost use Rattle.walk_rules.specs.Walks.{IsWalk, weight_of};
-ghost use Rattle.walk_rules.specs.Potentials.{IsFeasible};
+ghost use Rattle.walk_rules.specs.Potentials.{FallsAlong};
 ghost use Rattle.walk_rules.specs.Distances.{IsReach};
+ghost use Rattle.walk_rules.specs.Evidence.{TellsLeast};
 ghost use Rattle.walk_rules.specs.Starts.{StartsOnce};
-ghost use Rattle.alt_search.specs.Exploring.{weight_in, nodes_in, TellsLeast};
+ghost use Rattle.alt_search.specs.Exploring.{weight_in, nodes_in};
 
 use crate::expansion::expand;
 use crate::explored::Explored;
@@ -38,8 +39,8 @@ pub fn explore<V: RoadView, P: Potential>(
     ensures walks { IfOk result (λ explored. (node weight : ℕ) → weight_in explored node ≡ Some weight →
         (hops : List Hop) × IsWalk (V.network view.old) start.0 hops node × (weight_of hops ≡ weight)) }
 
-    // Where the potential is feasible, no walk weighs less, and none is told only of what lies behind the target.
-    ensures least { IsFeasible (V.network view.old) (P.bound potential.now) target.0 →
+    // Where the potential falls along hops, no walk weighs less, and none is told only of what lies behind the target.
+    ensures least { FallsAlong (V.network view.old) (P.bound potential.now) →
         IfOk result (λ explored. TellsLeast (V.network view.old) (P.bound potential.now) start.0 target.0 (weight_in explored)) }
 {
     let end = expand(alloc, view, potential, start, target)?;
