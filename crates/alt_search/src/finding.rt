@@ -61,7 +61,8 @@ pub fn search<V: RoadView, P: Potential>(
     ensures none { IsFeasible (V.network view.old) (P.bound potential.now) target.0 →
         IfOk result (λ found. IsNoWalk found ↔ NoWalk (V.network view.old) start.0 target.0) }
 
-    // Where there is a walk, labels show that none weighs less; where there is none, a set that no hop leads out of shows it.
+    // Where there is a walk, labels show that none weighs less; where there is none, a set that no hop
+    // leads out of shows it.
     ensures shown { IsFeasible (V.network view.old) (P.bound potential.now) target.0 →
         IfOk result (λ found. IfWalk found (λ _ weight _.
         IsShownLeast (V.network view.old) (P.bound potential.now) start.0 target.0 weight)) }
