@@ -29,6 +29,7 @@ pub fn explore<V: RoadView, P: Potential>(
     // The view is started once for each node that is settled, and its roads stay.
     ensures network { V.network view.new ≡ V.network view.old }
     ensures starts { IfOk result (λ explored. V.starts view.new ≡ V.starts view.old + explored.settled) }
+    ensures rise { V.starts view.new ≤ V.starts view.old + (V.network view.old).nodes }
     ensures once { IfOk result (λ explored.
         StartsOnce (V.network view.old) (P.bound potential.now) start.0 target.0 explored.settled) }
 
@@ -57,6 +58,7 @@ pub fn explore_all<V: RoadView>(
     requires count { V.starts view.old ≤ 2 ^ 63 }
     ensures network { V.network view.new ≡ V.network view.old }
     ensures starts { IfOk result (λ explored. V.starts view.new ≡ V.starts view.old + explored.settled) }
+    ensures rise { V.starts view.new ≤ V.starts view.old + (V.network view.old).nodes }
     ensures nodes { IfOk result (λ explored. nodes_in explored ≡ (V.network view.old).nodes) }
     ensures few { IfOk result (λ _. (V.network view.old).nodes < 2 ^ 32) }
 

@@ -73,6 +73,7 @@ pub fn search<V: RoadView, P: Potential>(
     // The roads stay, and the view is started as often as is told, at no node twice.
     ensures network { V.network view.new ≡ V.network view.old }
     ensures starts { IfOk result (λ found. V.starts view.new ≡ V.starts view.old + settled_of found) }
+    ensures rise { V.starts view.new ≤ V.starts view.old + (V.network view.old).nodes }
     ensures once { IfOk result (λ found.
         StartsOnce (V.network view.old) (P.bound potential.now) start.0 target.0 (settled_of found)) }
 
