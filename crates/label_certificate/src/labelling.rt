@@ -37,8 +37,8 @@ pub fn labels_of<V: RoadView, P: Potential>(
         IfOk result (λ labels. IsEvidence (V.network view.old) (label_at labels) start.0 target.0 weight) }
 
     ensures nodes { IfOk result (λ labels. length labels ≡ (V.network view.old).nodes) }
-    // The view is started at no node twice.
-    ensures starts { IfOk result (λ _. V.starts view.new ≤ V.starts view.old + (V.network view.old).nodes) }
+    // The view is started no more often than there are nodes.
+    ensures starts { V.starts view.new ≤ V.starts view.old + (V.network view.old).nodes }
     ensures network { V.network view.new ≡ V.network view.old }
 {
     let explored = explore(alloc, view, potential, start, target)?;

@@ -3,7 +3,6 @@ use Rattle.std.proofs.lemmas.List.{get_or_past}
 use Rattle.std.proofs.lemmas.Result.{IfOk-weaker}
 use Rattle.walk_rules.specs.Distances.{label_at}
 use Rattle.walk_rules.proofs.Labelling.{right_label, labels_are_evidence}
-use Rattle.walk_rules.proofs.Counting.{count_below-le}
 use Rattle.label_certificate.proofs.Results.{both_ok}
 use Rattle.label_certificate.proofs.labelling.labels_of.Goals as goal
 
@@ -31,9 +30,3 @@ pub returns-clause-nodes : goal.returns-clause-nodes
 returns-clause-nodes g c =
     let count : c.node_count.result ≡ (g.V.RoadView.network c.args.view.now).nodes = c.node_count.ensures ∙ ap (λ n. n.nodes) c.in_ok-explored.ensures.network in
     IfOk-weaker c.labels_by.result _ _ (λ labels long. long ∙ count) c.labels_by.ensures.nodes
-
-pub returns-clause-starts : goal.returns-clause-starts
-returns-clause-starts g c =
-    let once = c.in_ok-explored.ensures.once in
-    let count = count_below-le once.passes (g.V.RoadView.network c.args.view.now).nodes in
-    IfOk-weaker c.labels_by.result _ _ (λ labels long. omega (arith, c.in_ok-explored.ensures.starts, once.count, count)) c.labels_by.ensures.nodes
