@@ -8,3 +8,4 @@ pub mod Frontier
 pub mod Finish
 pub mod Starts
 pub mod Telling
+pub mod Showing

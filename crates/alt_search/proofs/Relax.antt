@@ -8,7 +8,7 @@ use Rattle.alt_search.specs.declared.reach.Reach.{Reach}
 use Rattle.alt_search.specs.declared.reach.Step.{Step}
 use Rattle.gh_base.specs.Networks.{Network}
 use Rattle.walk_rules.specs.Walks.{hops_from, cost}
-use Rattle.walk_rules.specs.Potentials.{IsFeasible}
+use Rattle.walk_rules.specs.Potentials.{FallsAlong}
 use Rattle.search_queue.specs.Keys.{key_at}
 use Rattle.alt_search.specs.Progress.{reach_at, IsSettled, IsTree, IsOrdered, Extends, Improves, Passes, Relaxes}
 use Rattle.walk_rules.proofs.Options.{some_or_none, some_of, Contains-cons_cases}
@@ -117,15 +117,15 @@ module _ {network : Network} {bound : ℕ → Option ℕ} {start settled : ℕ} 
     | inr ne ↦ (reach, reach_elsewhere v ne ∙ r, omega arith)
   ]
 
-  improve_ordered : {target x : ℕ} → IsFeasible network bound target → bound tail.0 ≡ Some x → (left : List Hop) → IsOrdered network bound (from.weight + x) reached keys tail.0 (hop ∷ left) → IsOrdered network bound (from.weight + x) reached' keys' tail.0 left
-  improve_ordered {target} {x} f x_is left o = record {
+  improve_ordered : {x : ℕ} → FallsAlong network bound → bound tail.0 ≡ Some x → (left : List Hop) → IsOrdered network bound (from.weight + x) reached keys tail.0 (hop ∷ left) → IsOrdered network bound (from.weight + x) reached' keys' tail.0 left
+  improve_ordered {x} f x_is left o = record {
     below = λ u reach b s bu. o.below u reach b (settled_before u reach s) bu;
     above = λ u key k. elim (cases_eq u hop.to.0) [
       | inl e ↦
           let here = key_here in
           let at = ap (key_at keys') e in
           let same : from.weight + cost hop + i.b ≡ key = cc in
-          let y = f.along tail.0 hop contains i.has_weight i.b i.bound_is in
+          let y = f tail.0 hop contains i.has_weight i.b i.bound_is in
           let same_x : y.0 ≡ x = cc in
           omega arith
       | inr ne ↦ o.above u key (sym (key_elsewhere u ne) ∙ k)
@@ -159,8 +159,8 @@ module _ {network : Network} {bound : ℕ → Option ℕ} {start settled : ℕ} 
         (q.0, q.2, inr (omega (arith, k.2, q.4)))
   ]
 
-  pass_ordered : {target x : ℕ} → IsFeasible network bound target → bound tail.0 ≡ Some x → (left : List Hop) → IsOrdered network bound (from.weight + x) reached keys tail.0 (hop ∷ left) → IsOrdered network bound (from.weight + x) reached keys tail.0 left
-  pass_ordered {target} {x} f x_is left o = record {
+  pass_ordered : {x : ℕ} → FallsAlong network bound → bound tail.0 ≡ Some x → (left : List Hop) → IsOrdered network bound (from.weight + x) reached keys tail.0 (hop ∷ left) → IsOrdered network bound (from.weight + x) reached keys tail.0 left
+  pass_ordered {x} f x_is left o = record {
     below = o.below;
     above = o.above;
     relaxed = λ u reach h s c w. elim (o.relaxed u reach h s c w) [
@@ -175,7 +175,7 @@ module _ {network : Network} {bound : ℕ → Option ℕ} {start settled : ℕ} 
             let at : reach_at reached h.to.0 ≡ Some known.0 = ap (λ (y : Hop). reach_at reached y.to.0) (sym e) ∙ known.1 in
             elim known.2 [
               | inl k ↦
-                  let y = f.along tail.0 hop contains weighs b b_is in
+                  let y = f tail.0 hop contains weighs b b_is in
                   let same_x : y.0 ≡ x = cc in
                   let z = o.below hop.to.0 known.0 b (record { reach_is = known.1; no_key = k }) b_is in
                   (known.0, at, omega arith)
@@ -200,8 +200,8 @@ module _ {network : Network} {bound : ℕ → Option ℕ} {start settled : ℕ} 
     | inr p ↦ kept t from_settled contains in_reached in_keys p (λ xs ks. IsTree network bound start settled xs ks) t
   ]
 
-  pub relax_ordered : {target x : ℕ} → IsFeasible network bound target → bound tail.0 ≡ Some x → (left : List Hop) → IsOrdered network bound (from.weight + x) reached keys tail.0 (hop ∷ left) → IsOrdered network bound (from.weight + x) reached' keys' tail.0 left
-  relax_ordered {target} {x} f x_is left o = elim r [
+  pub relax_ordered : {x : ℕ} → FallsAlong network bound → bound tail.0 ≡ Some x → (left : List Hop) → IsOrdered network bound (from.weight + x) reached keys tail.0 (hop ∷ left) → IsOrdered network bound (from.weight + x) reached' keys' tail.0 left
+  relax_ordered {x} f x_is left o = elim r [
     | inl i ↦ improve_ordered t from_settled contains in_reached in_keys i f x_is left o
     | inr p ↦ kept t from_settled contains in_reached in_keys p (λ xs ks. IsOrdered network bound (from.weight + x) xs ks tail.0 left) (pass_ordered t from_settled contains in_reached in_keys p f x_is left o)
   ]

@@ -4,18 +4,19 @@ use Rattle.std.specs.Prelude.{⊤}
 use Rattle.alt_search.specs.declared.reach.Reach.{Reach}
 use Rattle.gh_base.specs.Networks.{Network}
 use Rattle.walk_rules.specs.Walks.{weight_of}
-use Rattle.walk_rules.specs.Potentials.{IsFeasible}
+use Rattle.walk_rules.specs.Potentials.{FallsAlong}
+use Rattle.walk_rules.proofs.Walking.{falls_along_walk}
 use Rattle.search_queue.specs.Keys.{key_at}
 use Rattle.alt_search.specs.Progress.{reach_at, is_settled, IsSettled, IsTree, IsOrdered, IsUnderway, IsLeastOpen}
 use Rattle.walk_rules.specs.Starts.{IsCandidate, StartsAt}
-use Rattle.alt_search.proofs.Frontier.{along_walk, frontier}
+use Rattle.alt_search.proofs.Frontier.{frontier}
 use Rattle.std.proofs.lemmas.Bool.{cases_Bool}
 use Rattle.walk_rules.proofs.Options.{some_or_none, some_of}
 use Rattle.walk_rules.proofs.Counting.{count_below-none}
 use Rattle.alt_search.proofs.Trees.{walk_of}
 use Rattle.alt_search.proofs.Underway.{settled_true, true_settled}
 
-module _ {network : Network} {bound : ℕ → Option ℕ} {start target settled least node : ℕ} {reached : List (Option Reach)} {keys : List (Option ℕ)} (w : IsUnderway network bound start target settled reached keys) (o : IsOrdered network bound least reached keys node []) (f : IsFeasible network bound target) where
+module _ {network : Network} {bound : ℕ → Option ℕ} {start target settled least node : ℕ} {reached : List (Option Reach)} {keys : List (Option ℕ)} (w : IsUnderway network bound start target settled reached keys) (o : IsOrdered network bound least reached keys node []) (f : FallsAlong network bound) where
   -- what is settled is a candidate of a sum up to the least
   settled_candidate : (May : ℕ → Type 0) → ((sum : ℕ) → sum ≤ least → May sum) → (u : ℕ) → is_settled reached keys u ≡ true → IsCandidate network bound start target May u
   settled_candidate May may u p =
@@ -35,20 +36,20 @@ module _ {network : Network} {bound : ℕ → Option ℕ} {start target settled 
   -- a candidate is settled, unless some open node is no further
   candidate_settled : (Must : ℕ → Type 0) → ((sum u key : ℕ) → Must sum → key_at keys u ≡ Some key → key ≤ sum → ⊥) → (u : ℕ) → IsCandidate network bound start target Must u → is_settled reached keys u ≡ true
   candidate_settled Must must u c =
-      let x = along_walk f c.hops start u c.left c.walk c.bound_is in
+      let x = falls_along_walk network bound f c.hops start u c.walk c.left c.bound_is in
       let begin = w.start_known x.0 x.1 in
       elim (frontier w.tree o f c.hops start u c.left begin.0 c.walk c.bound_is begin.1) [
         | inl h ↦ absurd (must (weight_of c.hops + c.left) h.node h.key c.sum h.key_is (let a = h.before in let b = begin.2 in omega arith))
         | inr h ↦ true_settled reached keys u h.reach h.settled
       ]
 
-  pub starts_at_target : IsLeastOpen keys target → (from : Reach) → reach_at reached target ≡ Some from → StartsAt network bound start target (λ sum. sum ≤ from.weight) (λ sum. sum < from.weight) settled
-  starts_at_target open_target from r =
+  pub starts_at_target : bound target ≡ Some 0 → IsLeastOpen keys target → (from : Reach) → reach_at reached target ≡ Some from → StartsAt network bound start target (λ sum. sum ≤ from.weight) (λ sum. sum < from.weight) settled
+  starts_at_target at_target open_target from r =
       let key = open_target.key in
       let q = w.tree.queued target key open_target.key_is in
       let same : q.0 ≡ from = cc in
       let weighs = ap (λ (r : Reach). r.weight) same in
-      let nothing : q.1 ≡ 0 = let a = f.at_target in cc in
+      let nothing : q.1 ≡ 0 = let a = at_target in cc in
       let least_is = o.above target key open_target.key_is in
       record {
         passes = is_settled reached keys;

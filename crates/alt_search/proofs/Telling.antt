@@ -5,17 +5,18 @@ use Rattle.std.proofs.lemmas.Bool.{cases_eq}
 use Rattle.gh_base.specs.declared.edges.Hop.{Hop}
 use Rattle.gh_base.specs.Networks.{Network, LeadsToNodes}
 use Rattle.walk_rules.specs.Walks.{IsWalk, weight_of}
-use Rattle.walk_rules.specs.Potentials.{IsFeasible, flat}
+use Rattle.walk_rules.specs.Potentials.{FallsAlong, flat}
 use Rattle.walk_rules.specs.Distances.{IsReach}
+use Rattle.walk_rules.specs.Evidence.{TellsLeast}
 use Rattle.walk_rules.proofs.Options.{some_or_none, some_of}
-use Rattle.walk_rules.proofs.Walking.{walk_within}
+use Rattle.walk_rules.proofs.Walking.{falls_along_walk, walk_within}
 use Rattle.search_queue.specs.Keys.{key_at}
 use Rattle.alt_search.specs.declared.reach.Reach.{Reach}
 use Rattle.alt_search.specs.Progress.{reach_at, IsSettled, IsOrdered, IsUnderway, IsLeastOpen, Stops, IsDone}
-use Rattle.alt_search.specs.Exploring.{told, TellsLeast}
+use Rattle.alt_search.specs.Exploring.{told}
 use Rattle.alt_search.proofs.Listed.{after_emptied}
 use Rattle.alt_search.proofs.Trees.{walk_of}
-use Rattle.alt_search.proofs.Frontier.{along_walk, frontier}
+use Rattle.alt_search.proofs.Frontier.{frontier}
 use Rattle.alt_search.proofs.Finish.{least_at_target}
 
 -- a weight that is told is that of a node that was reached and isn't open
@@ -42,11 +43,11 @@ stays_closed : (at_target : Bool) (target : ℕ) (before keys : List (Option ℕ
 stays_closed false target before keys s u n = ap (λ xs. key_at xs u) s.1 ∙ n
 stays_closed true target before keys s u n = ap (λ xs. key_at xs u) s.1 ∙ after_emptied before target u n
 
-module _ {network : Network} {bound : ℕ → Option ℕ} {start target settled least node : ℕ} {reached : List (Option Reach)} {keys : List (Option ℕ)} (w : IsUnderway network bound start target settled reached keys) (o : IsOrdered network bound least reached keys node []) (f : IsFeasible network bound target) where
+module _ {network : Network} {bound : ℕ → Option ℕ} {start target settled least node : ℕ} {reached : List (Option Reach)} {keys : List (Option ℕ)} (w : IsUnderway network bound start target settled reached keys) (o : IsOrdered network bound least reached keys node []) (f : FallsAlong network bound) where
   -- a walk to a node goes over an open node, or the node is settled by one no heavier
   open_or_settled : (u left : ℕ) → bound u ≡ Some left → (hops : List Hop) → IsWalk network start hops u → ((v : ℕ) × (key : ℕ) × (key_at keys v ≡ Some key) × (key ≤ weight_of hops + left)) ⊎ ((reach : Reach) × IsSettled reached keys u reach × (reach.weight ≤ weight_of hops))
   open_or_settled u left e hops walk =
-      let x = along_walk f hops start u left walk e in
+      let x = falls_along_walk network bound f hops start u walk left e in
       let begin = w.start_known x.0 x.1 in
       elim (frontier w.tree o f hops start u left begin.0 walk e begin.1) [
         | inl h ↦ inl (h.node, h.key, h.key_is, omega (arith, h.before, begin.2))
@@ -72,7 +73,7 @@ told_walk {reached} {keys} d u x e =
     let walk = walk_of d.underway.tree t.0.depth u t.0 t.1 refl in
     (walk.0, walk.1, walk.2 ∙ t.3)
 
-pub tells_least : {network : Network} {bound : ℕ → Option ℕ} {start target settled : ℕ} {reached : List (Option Reach)} {keys : List (Option ℕ)} (at_target : Bool) → IsDone network bound start target settled reached keys at_target → IsFeasible network bound target → TellsLeast network bound start target (λ node. told (reach_at reached node) (key_at keys node))
+pub tells_least : {network : Network} {bound : ℕ → Option ℕ} {start target settled : ℕ} {reached : List (Option Reach)} {keys : List (Option ℕ)} (at_target : Bool) → IsDone network bound start target settled reached keys at_target → FallsAlong network bound → TellsLeast network bound start target (λ node. told (reach_at reached node) (key_at keys node))
 tells_least {network} {bound} {start} {target} {settled} {reached} {keys} at_target d f =
     let w = d.underway in
     let o = (d.in_order f).ordered in

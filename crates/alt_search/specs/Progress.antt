@@ -4,7 +4,7 @@ use Rattle.gh_base.specs.declared.edges.Hop.{Hop}
 use Rattle.gh_base.specs.declared.edges.NodeId.{NodeId}
 use Rattle.gh_base.specs.Networks.{Network}
 use Rattle.walk_rules.specs.Walks.{hops_from, cost}
-use Rattle.walk_rules.specs.Potentials.{IsFeasible}
+use Rattle.walk_rules.specs.Potentials.{FallsAlong}
 use Rattle.walk_rules.specs.Starts.{count_below}
 use Rattle.search_queue.specs.Keys.{key_at}
 use Rattle.alt_search.specs.declared.reach.Reach.{Reach}
@@ -50,7 +50,7 @@ IsChain reached = (node : ℕ) (reach : Reach) (step : Step) → reach_at reache
 abbrev pub IsRelaxed : (ℕ → Option ℕ) → List (Option Reach) → Reach → Hop → Type 0
 IsRelaxed bound reached from hop = (b : ℕ) → bound hop.to.0 ≡ Some b → (reach : Reach) × (reach_at reached hop.to.0 ≡ Some reach) × (reach.weight ≤ from.weight + cost hop)
 
--- Where the bounds are feasible: nothing that is still to come is below what is settled.
+-- Where the bounds fall along hops: nothing that is still to come is below what is settled.
 pub record IsOrdered (network : Network) (bound : ℕ → Option ℕ) (least : ℕ) (reached : List (Option Reach)) (keys : List (Option ℕ)) (node : ℕ) (left : List Hop) : Type 0 where
   pub below : (u : ℕ) (reach : Reach) (b : ℕ) → IsSettled reached keys u reach → bound u ≡ Some b → reach.weight + b ≤ least
   pub above : (u key : ℕ) → key_at keys u ≡ Some key → least ≤ key
@@ -112,5 +112,5 @@ Stops false target open_keys keys = ((node : ℕ) → key_at open_keys node ≡ 
 pub record IsDone (network : Network) (bound : ℕ → Option ℕ) (start target settled : ℕ) (reached : List (Option Reach)) (keys : List (Option ℕ)) (at_target : Bool) : Type 0 where
   pub open_keys : List (Option ℕ)
   pub underway : IsUnderway network bound start target settled reached open_keys
-  pub in_order : IsFeasible network bound target → IsInOrder network bound reached open_keys
+  pub in_order : FallsAlong network bound → IsInOrder network bound reached open_keys
   pub stops : Stops at_target target open_keys keys

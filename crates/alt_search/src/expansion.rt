@@ -29,6 +29,7 @@ pub fn expand<V: RoadView, P: Potential>(
     requires count { V.starts view.old ≤ 2 ^ 63 }
     ensures network { V.network view.new ≡ V.network view.old }
     ensures starts { IfOk result (λ end. V.starts view.new ≡ V.starts view.old + end.settled) }
+    ensures rise { V.starts view.new ≤ V.starts view.old + (V.network view.old).nodes }
     ensures few { IfOk result (λ _. (V.network view.old).nodes < 2 ^ 32) }
     ensures done { IfOk result (λ end. IsDone (V.network view.old) (P.bound potential.now) start.0 target.0
         end.settled end.reached.items end.queue end.at_target) }

@@ -2,10 +2,11 @@
 ghost use Rattle.std.specs.Prelude.{◌≡◌, ◌+◌, ◌^◌, ◌<◌, ◌≤◌, ℕ, Some, List, IfOk};
 ghost use Rattle.gh_base.specs.declared.edges.Hop.{Hop};
 ghost use Rattle.walk_rules.specs.Walks.{IsWalk, weight_of};
-ghost use Rattle.walk_rules.specs.Potentials.{IsFeasible};
+ghost use Rattle.walk_rules.specs.Potentials.{FallsAlong};
 ghost use Rattle.walk_rules.specs.Distances.{IsReach};
+ghost use Rattle.walk_rules.specs.Evidence.{TellsLeast};
 ghost use Rattle.walk_rules.specs.Starts.{StartsOnce};
-ghost use Rattle.alt_search.specs.Exploring.{weight_in, nodes_in, TellsLeast};
+ghost use Rattle.alt_search.specs.Exploring.{weight_in, nodes_in};
 
 use crate::expansion::expand;
 use crate::explored::Explored;
@@ -28,6 +29,7 @@ pub fn explore<V: RoadView, P: Potential>(
     // The view is started once for each node that is settled, and its roads stay.
     ensures network { V.network view.new ≡ V.network view.old }
     ensures starts { IfOk result (λ explored. V.starts view.new ≡ V.starts view.old + explored.settled) }
+    ensures rise { V.starts view.new ≤ V.starts view.old + (V.network view.old).nodes }
     ensures once { IfOk result (λ explored.
         StartsOnce (V.network view.old) (P.bound potential.now) start.0 target.0 explored.settled) }
 
@@ -38,8 +40,8 @@ pub fn explore<V: RoadView, P: Potential>(
     ensures walks { IfOk result (λ explored. (node weight : ℕ) → weight_in explored node ≡ Some weight →
         (hops : List Hop) × IsWalk (V.network view.old) start.0 hops node × (weight_of hops ≡ weight)) }
 
-    // Where the potential is feasible, no walk weighs less, and none is told only of what lies behind the target.
-    ensures least { IsFeasible (V.network view.old) (P.bound potential.now) target.0 →
+    // Where the potential falls along hops, no walk weighs less, and none is told only of what lies behind the target.
+    ensures least { FallsAlong (V.network view.old) (P.bound potential.now) →
         IfOk result (λ explored. TellsLeast (V.network view.old) (P.bound potential.now) start.0 target.0 (weight_in explored)) }
 {
     let end = expand(alloc, view, potential, start, target)?;
@@ -56,6 +58,7 @@ pub fn explore_all<V: RoadView>(
     requires count { V.starts view.old ≤ 2 ^ 63 }
     ensures network { V.network view.new ≡ V.network view.old }
     ensures starts { IfOk result (λ explored. V.starts view.new ≡ V.starts view.old + explored.settled) }
+    ensures rise { V.starts view.new ≤ V.starts view.old + (V.network view.old).nodes }
     ensures nodes { IfOk result (λ explored. nodes_in explored ≡ (V.network view.old).nodes) }
     ensures few { IfOk result (λ _. (V.network view.old).nodes < 2 ^ 32) }
 

@@ -2,6 +2,7 @@
 ghost use Rattle.std.specs.Prelude.{◌≡◌, ◌+◌, ◌^◌, ◌<◌, ◌≤◌, ◌↔◌, [], length, IfOk};
 ghost use Rattle.walk_rules.specs.Walks.{IsWalk, weight_of, IsAtMostEachWalk, NoWalk};
 ghost use Rattle.walk_rules.specs.Potentials.{IsFeasible};
+ghost use Rattle.walk_rules.specs.Evidence.{IsShownLeast, IsShownNone};
 ghost use Rattle.walk_rules.specs.Starts.{StartsWithin, StartsAtAll, StartsOnce};
 ghost use Rattle.alt_search.specs.Findings.{IfWalk, IfNoWalk, IsNoWalk, settled_of};
 
@@ -60,9 +61,19 @@ pub fn search<V: RoadView, P: Potential>(
     ensures none { IsFeasible (V.network view.old) (P.bound potential.now) target.0 →
         IfOk result (λ found. IsNoWalk found ↔ NoWalk (V.network view.old) start.0 target.0) }
 
+    // Where there is a walk, labels show that none weighs less; where there is none, a set that no hop
+    // leads out of shows it.
+    ensures shown { IsFeasible (V.network view.old) (P.bound potential.now) target.0 →
+        IfOk result (λ found. IfWalk found (λ _ weight _.
+        IsShownLeast (V.network view.old) (P.bound potential.now) start.0 target.0 weight)) }
+    ensures closed { IsFeasible (V.network view.old) (P.bound potential.now) target.0 →
+        IfOk result (λ found. IfNoWalk found (λ _.
+        IsShownNone (V.network view.old) (P.bound potential.now) start.0 target.0)) }
+
     // The roads stay, and the view is started as often as is told, at no node twice.
     ensures network { V.network view.new ≡ V.network view.old }
     ensures starts { IfOk result (λ found. V.starts view.new ≡ V.starts view.old + settled_of found) }
+    ensures rise { V.starts view.new ≤ V.starts view.old + (V.network view.old).nodes }
     ensures once { IfOk result (λ found.
         StartsOnce (V.network view.old) (P.bound potential.now) start.0 target.0 (settled_of found)) }
 

@@ -1,9 +1,10 @@
 //! Least walks over any view of roads, looking ahead by any potential (A*, with landmarks ALT).
 //!
-//! Promises: where the potential is feasible, a walk that is found is least, and none is found only
-//! where there is none; the view is started at each node at most once, at no node that a bounded
-//! search need not look at, and that often is what is told. It stands on the words of `walk_rules`
-//! and the queue of `search_queue`. The loop is `expand`, in `expansion`; all else reads its end.
+//! Promises: where the potential is feasible, a walk that is found is least, as labels show that no
+//! hop violates, and none is found only where there is none, as a set shows that no hop leads out of;
+//! the view is started at each node at most once, at no node that a bounded search need not look at,
+//! and that often is what is told. It stands on the words of `walk_rules` and the queue of
+//! `search_queue`. The loop is `expand`, in `expansion`; all else reads its end.
 #![tactic(auto)]
 
 mod adjacency;

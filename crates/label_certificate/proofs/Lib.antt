@@ -1,3 +1,3 @@
 pub mod Reasons
 pub mod Shown
-pub mod Lesser
+pub mod Results

@@ -1,3 +1,2 @@
 pub mod Refuting
 pub mod Testing
-pub mod Labelling

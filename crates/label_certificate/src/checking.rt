@@ -33,6 +33,8 @@ pub fn check_walk<V: RoadView>(
     // It refuses with `Ends` where those aren't right, and else with the first hop that is violated.
     ensures reason { IfErr result (λ why. IsReason (V.network view.old) (violates (label_at labels.now))
         ((label_at labels.now start.0 ≡ Some 0) × (label_at labels.now target.0 ≡ Some weight)) why) }
+    // The view is started no more often than there are nodes.
+    ensures starts { V.starts view.new ≤ V.starts view.old + (V.network view.old).nodes }
     ensures network { V.network view.new ≡ V.network view.old }
 {
     if !label_ends(labels, start, target, weight) {
@@ -61,6 +63,8 @@ pub fn check_none<V: RoadView>(
     // It refuses with `Ends` where those aren't right, and else with the first hop that leads out.
     ensures reason { IfErr result (λ why. IsReason (V.network view.old) (leads_out (is_in closed.now))
         ((is_in closed.now start.0 ≡ true) × (is_in closed.now target.0 ≡ false)) why) }
+    // The view is started no more often than there are nodes.
+    ensures starts { V.starts view.new ≤ V.starts view.old + (V.network view.old).nodes }
     ensures network { V.network view.new ≡ V.network view.old }
 {
     if !set_ends(closed, start, target) {

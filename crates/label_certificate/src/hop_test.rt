@@ -28,6 +28,7 @@ pub fn test_hops<V: RoadView, T: HopTest>(view: &mut V, test: &T) -> Result<(), 
     requires nodes { T.nodes test.now ≡ (V.network view.old).nodes }
     requires count { V.starts view.old ≤ 2 ^ 63 }
     ensures network { V.network view.new ≡ V.network view.old }
+    ensures starts { V.starts view.new ≤ V.starts view.old + (V.network view.old).nodes }
     ensures none { OnOk result ((node : ℕ) (hop : Hop) → node < (V.network view.old).nodes →
         Contains (hops_from (V.network view.old) node) hop → T.fails test.now node hop ≡ false) }
     ensures first { IfErr result (λ why. IsReason (V.network view.old) (T.fails test.now) ⊤ why) }

@@ -3,9 +3,8 @@ ghost use Rattle.std.specs.Prelude.{◌≡◌, ◌+◌, ◌^◌, ◌<◌, ◌≤
 ghost use Rattle.walk_rules.specs.Walks.{IsLeastWeight};
 ghost use Rattle.walk_rules.specs.Potentials.{IsFeasible};
 ghost use Rattle.walk_rules.specs.Distances.{label_at};
-ghost use Rattle.walk_rules.specs.Evidence.{IsEvidence, IsEvidenceLabel};
+ghost use Rattle.walk_rules.specs.Evidence.{IsEvidence, IsEvidenceLabel, label_by};
 ghost use Rattle.alt_search.specs.Exploring.{weight_in, nodes_in};
-ghost use Rattle.label_certificate.specs.Labelling.{label_by};
 
 use alt_search::{Explored, explore};
 use gh_base::{LabelList, NoMemory, NodeId, Potential, RoadView};
@@ -38,6 +37,8 @@ pub fn labels_of<V: RoadView, P: Potential>(
         IfOk result (λ labels. IsEvidence (V.network view.old) (label_at labels) start.0 target.0 weight) }
 
     ensures nodes { IfOk result (λ labels. length labels ≡ (V.network view.old).nodes) }
+    // The view is started no more often than there are nodes.
+    ensures starts { V.starts view.new ≤ V.starts view.old + (V.network view.old).nodes }
     ensures network { V.network view.new ≡ V.network view.old }
 {
     let explored = explore(alloc, view, potential, start, target)?;

@@ -2,6 +2,8 @@ pub mod Options
 pub mod Counting
 pub mod Walking
 pub mod Showing
+pub mod Labelling
+pub mod Closing
 pub mod Single
 pub mod Turning
 pub mod Starting

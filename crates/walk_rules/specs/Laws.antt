@@ -1,12 +1,12 @@
 -- Laws of walks, each a statement of its own.
-use Rattle.std.specs.Prelude.{◌≡◌, ⊤, ℕ, ◌<◌, ◌≤◌, Bool, true, Option, Some, List}
+use Rattle.std.specs.Prelude.{◌≡◌, ⊤, ℕ, ◌<◌, ◌≤◌, Bool, true, Option, Some, IsSome, List}
 use Rattle.gh_base.specs.declared.edges.Hop.{Hop}
 use Rattle.gh_base.specs.Networks.{Network, LeadsToNodes}
 use Rattle.walk_rules.specs.Walks.{IsWalk, weight_of, IsLeast, IsLeastWeight, NoWalk, IsAtMostEachWalk, AreTurned}
 use Rattle.walk_rules.specs.Potentials.{IsWithin, FallsAlong, RisesAlong, IsFeasible}
 use Rattle.walk_rules.specs.Distances.{IsReach, IsDistance, IsLabel}
 use Rattle.walk_rules.specs.Starts.{count_below, IsCandidate, StartsWithin, StartsAtAll}
-use Rattle.walk_rules.specs.Evidence.{IsEvidence, IsClosed}
+use Rattle.walk_rules.specs.Evidence.{IsEvidence, IsClosed, IsShownLeast, IsShownNone, TellsLeast}
 
 -- two least walks between the same nodes weigh the same
 abbrev pub LeastWalksWeighTheSame : Type 0
@@ -47,6 +47,30 @@ EvidenceShowsLeast = (network : Network) (label : ℕ → Option ℕ) (start tar
 abbrev pub ClosedSetsShowNoWalk : Type 0
 ClosedSetsShowNoWalk = (network : Network) (has : ℕ → Bool) (start target : ℕ) →
     IsClosed network has start target → NoWalk network start target
+
+-- where labels show that no walk weighs less, none does
+abbrev pub ShownLeastIsLeast : Type 0
+ShownLeastIsLeast = (network : Network) (bound : ℕ → Option ℕ) (start target weight : ℕ) →
+    IsShownLeast network bound start target weight → IsAtMostEachWalk network start target weight
+
+-- where a set shows that there is no walk, there is none
+abbrev pub ShownNoneIsNone : Type 0
+ShownNoneIsNone = (network : Network) (bound : ℕ → Option ℕ) (start target : ℕ) →
+    IsShownNone network bound start target → NoWalk network start target
+
+-- least weights that are told, and a feasible bound, show that a least walk is least
+abbrev pub ToldWeightsShowLeast : Type 0
+ToldWeightsShowLeast = (network : Network) (bound told : ℕ → Option ℕ) (start target weight : ℕ) →
+    LeadsToNodes network → start < network.nodes → target < network.nodes → IsFeasible network bound target →
+    TellsLeast network bound start target told → IsLeastWeight network start target weight →
+    IsShownLeast network bound start target weight
+
+-- least weights that are told, and a bound that falls along hops, show that there is no walk where there is none
+abbrev pub ToldWeightsShowNone : Type 0
+ToldWeightsShowNone = (network : Network) (bound told : ℕ → Option ℕ) (start target : ℕ) →
+    LeadsToNodes network → start < network.nodes → target < network.nodes → FallsAlong network bound → IsSome (bound target) →
+    TellsLeast network bound start target told → NoWalk network start target →
+    IsShownNone network bound start target
 
 -- there is one least weight or none
 abbrev pub OneReach : Type 0

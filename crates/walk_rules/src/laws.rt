@@ -1,5 +1,5 @@
 //! The laws. Each function does nothing: what it ensures is the law.
-ghost use Rattle.walk_rules.specs.Laws.{LeastWalksWeighTheSame, OneLeastWeight, FallsAlongWalks, RisesAlongWalks, FeasibleBoundsAreBelow, WalksStayWithin, EvidenceShowsLeast, ClosedSetsShowNoWalk, OneReach, OneDistance, OneLabel, StartsAreBetweenCounts, StartsAreAllCandidates, WalksTurnRound, TurnedBothWays, LabelsTurnRound};
+ghost use Rattle.walk_rules.specs.Laws.{LeastWalksWeighTheSame, OneLeastWeight, FallsAlongWalks, RisesAlongWalks, FeasibleBoundsAreBelow, WalksStayWithin, EvidenceShowsLeast, ClosedSetsShowNoWalk, ShownLeastIsLeast, ShownNoneIsNone, ToldWeightsShowLeast, ToldWeightsShowNone, OneReach, OneDistance, OneLabel, StartsAreBetweenCounts, StartsAreAllCandidates, WalksTurnRound, TurnedBothWays, LabelsTurnRound};
 
 /// A least weight is unique.
 pub fn least_weights_are_unique()
@@ -19,6 +19,14 @@ pub fn bounds_change_by_weights()
 pub fn evidence_shows()
     ensures least { EvidenceShowsLeast }
     ensures none { ClosedSetsShowNoWalk }
+    ensures shown_least { ShownLeastIsLeast }
+    ensures shown_none { ShownNoneIsNone }
+{}
+
+/// Least weights that are told give the evidence.
+pub fn told_weights_show()
+    ensures least { ToldWeightsShowLeast }
+    ensures none { ToldWeightsShowNone }
 {}
 
 /// A distance has one value, and so has a label.

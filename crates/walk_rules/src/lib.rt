@@ -9,6 +9,6 @@ mod row;
 
 pub use laws::{
     bounds_change_by_weights, distances_are_unique, evidence_shows, least_weights_are_unique,
-    starts_are_counted, walks_turn_round,
+    starts_are_counted, told_weights_show, walks_turn_round,
 };
 pub use row::row_of_five_in_numbers;

@@ -141,3 +141,13 @@ pub returns-clause-done : goal.returns-clause-done
 returns-clause-done g c =
     let i = c.nodes.invariant in
     record { open_keys = c.nodes.queue; underway = i.underway; in_order = i.in_order; stops = (c.in_default-pop_least.ensures.none, c.in_default-pop_least.ensures.stays) }
+
+pub returns-then-node-target-clause-rise : goal.returns-then-node-target-clause-rise
+returns-then-node-target-clause-rise g c =
+    let u = c.nodes.invariant.underway in
+    omega (arith, c.nodes.invariant.starts, u.counted, count_below-le (is_settled c.nodes.reached.items c.nodes.queue) ((g.V.RoadView.network c.args.view.now).nodes))
+
+pub returns-clause-rise : goal.returns-clause-rise
+returns-clause-rise g c =
+    let u = c.nodes.invariant.underway in
+    omega (arith, c.nodes.invariant.starts, u.counted, count_below-le (is_settled c.nodes.reached.items c.nodes.queue) ((g.V.RoadView.network c.args.view.now).nodes))

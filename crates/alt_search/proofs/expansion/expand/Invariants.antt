@@ -1,7 +1,7 @@
 use Rattle.std.proofs.Common.{◌≡◌, ◌+◌, ◌-◌, ◌^◌, ◌<◌, ◌≤◌, ℕ, Some, length, Contains}
 use Rattle.gh_base.specs.declared.edges.Hop.{Hop}
 use Rattle.walk_rules.specs.Walks.{hops_from}
-use Rattle.walk_rules.specs.Potentials.{IsFeasible}
+use Rattle.walk_rules.specs.Potentials.{FallsAlong}
 use Rattle.alt_search.specs.Progress.{IsSettled, IsOrdered, IsUnderway, IsInOrder}
 use Rattle.alt_search.proofs.expansion.expand.Given as goal
 
@@ -15,7 +15,7 @@ invariant-nodes g l =
       starts : g.V.RoadView.starts l.view ≡ g.V.RoadView.starts l.fn.view + l.settled;
       few : network.nodes < 2 ^ 32;
       underway : IsUnderway network bound l.fn.start.0 l.target.0 l.settled l.reached.items l.queue;
-      in_order : IsFeasible network bound l.target.0 → IsInOrder network bound l.reached.items l.queue;
+      in_order : FallsAlong network bound → IsInOrder network bound l.reached.items l.queue;
     }
 
 -- each start settles a node
@@ -35,7 +35,7 @@ invariant-hops g l =
       from_settled : IsSettled l.reached.items l.queue l.node.0 l.from;
       deep : l.from.depth + 1 ≤ l.settled;
       rest : (hop : Hop) → Contains (g.V.RoadView.left l.view) hop → Contains (hops_from network l.node.0) hop;
-      ordered : IsFeasible network bound l.target.0 → (x : ℕ) × (bound l.node.0 ≡ Some x) × IsOrdered network bound (l.from.weight + x) l.reached.items l.queue l.node.0 (g.V.RoadView.left l.view);
+      ordered : FallsAlong network bound → (x : ℕ) × (bound l.node.0 ≡ Some x) × IsOrdered network bound (l.from.weight + x) l.reached.items l.queue l.node.0 (g.V.RoadView.left l.view);
     }
 
 abbrev pub decreases-hops : goal.decreases-hops

@@ -11,4 +11,4 @@ returns-clause-each g c =
     let past = c.node_count.result in
     IfOk-weaker c.explore.result _ _
     (λ explored least node. all_told network c.args.start.0 past (weight_in explored) least (g.met.V.RoadView.leads c.args.view.now) c.requires.start (omega (arith, c.node_count.ensures)) node (weight_in explored node) refl)
-    (c.explore.ensures.least (flat_feasible network past))
+    (c.explore.ensures.least (flat_feasible network past).along)

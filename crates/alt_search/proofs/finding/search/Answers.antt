@@ -1,6 +1,7 @@
-use Rattle.std.proofs.Common.{sym, subst, ◌∙◌, arith}
+use Rattle.std.proofs.Common.{is_some, sym, ap, subst, ◌∙◌, arith}
 use Rattle.alt_search.specs.Progress.{IsChain}
 use Rattle.alt_search.proofs.Finish.{least_at_target, none_left}
+use Rattle.alt_search.proofs.Showing.{shown_least, shown_none}
 use Rattle.alt_search.proofs.Starts.{starts_at_target, starts_at_end, starts_once, none_from_target}
 use Rattle.alt_search.proofs.Trees.{chain_of}
 use Rattle.alt_search.proofs.finding.search.Goals as goal
@@ -8,18 +9,21 @@ use Rattle.alt_search.proofs.finding.search.Goals as goal
 pub returns-then-not-end-clause-none : goal.returns-then-not-end-clause-none
 returns-then-not-end-clause-none g c = λ f.
     let d = c.in_ok-end.ensures.done in
-    (λ _. none_left d.underway (d.in_order f).ordered f (rw c.if-not-end.true at d.stops).0, λ _. tt)
+    (λ _. none_left d.underway (d.in_order f.along).ordered f.along (ap is_some f.at_target) (rw c.if-not-end.true at d.stops).0, λ _. tt)
 
 pub returns-then-not-end-clause-all : goal.returns-then-not-end-clause-all
 returns-then-not-end-clause-all g c = λ f.
     let d = c.in_ok-end.ensures.done in
-    starts_at_end d.underway (d.in_order f).ordered f (rw c.if-not-end.true at d.stops).0
+    starts_at_end d.underway (d.in_order f.along).ordered f.along (rw c.if-not-end.true at d.stops).0
 
 pub returns-then-not-end-clause-once : goal.returns-then-not-end-clause-once
 returns-then-not-end-clause-once g c = starts_once c.in_ok-end.ensures.done.underway
 
 pub returns-then-not-end-clause-here : goal.returns-then-not-end-clause-here
 returns-then-not-end-clause-here g c = λ same. none_from_target c.in_ok-end.ensures.done.underway same
+
+pub returns-then-not-end-clause-closed : goal.returns-then-not-end-clause-closed
+returns-then-not-end-clause-closed g c = λ f. shown_none c.in_ok-end.ensures.done (g.met.V.RoadView.leads c.args.view.now) c.requires.start c.requires.target f c.if-not-end.true
 
 pub walk_to-requires-clause-chain : goal.walk_to-requires-clause-chain
 walk_to-requires-clause-chain g c = subst IsChain (sym c.deref-2.ensures.value) (chain_of c.in_ok-end.ensures.done.underway.tree)
@@ -40,7 +44,7 @@ returns-clause-least g c = λ f others walk.
     let stops = (rw c.if-not-end.false at d.stops).0 in
     let q = d.underway.tree.queued c.args.target.0 stops.key stops.key_is in
     let weighs = c.weight_at-weight.ensures q.0 (rw c.deref.ensures.value q.2) in
-    omega (arith, least_at_target d.underway (d.in_order f).ordered f stops q.0 q.2 others walk)
+    omega (arith, least_at_target d.underway (d.in_order f.along).ordered f.along stops q.0 q.2 others walk)
 
 pub returns-clause-none : goal.returns-clause-none
 returns-clause-none g c = λ f.
@@ -58,7 +62,15 @@ returns-clause-within g c = λ f.
     let stops = (rw c.if-not-end.false at d.stops).0 in
     let q = d.underway.tree.queued c.args.target.0 stops.key stops.key_is in
     let weighs = c.weight_at-weight.ensures q.0 (rw c.deref.ensures.value q.2) in
-    rw weighs (starts_at_target d.underway (d.in_order f).ordered f stops q.0 q.2)
+    rw weighs (starts_at_target d.underway (d.in_order f.along).ordered f.along f.at_target stops q.0 q.2)
+
+pub returns-clause-shown : goal.returns-clause-shown
+returns-clause-shown g c = λ f.
+    let d = c.in_ok-end.ensures.done in
+    let stops = (rw c.if-not-end.false at d.stops).0 in
+    let q = d.underway.tree.queued c.args.target.0 stops.key stops.key_is in
+    let weighs = c.weight_at-weight.ensures q.0 (rw c.deref.ensures.value q.2) in
+    rw weighs (shown_least d (g.met.V.RoadView.leads c.args.view.now) c.requires.start c.requires.target f c.if-not-end.false q.0 q.2)
 
 pub returns-clause-once : goal.returns-clause-once
 returns-clause-once g c = starts_once c.in_ok-end.ensures.done.underway

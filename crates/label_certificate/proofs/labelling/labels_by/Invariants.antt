@@ -1,7 +1,7 @@
 use Rattle.std.proofs.Common.{◌≡◌, ◌<◌, ℕ, Some, length}
 use Rattle.walk_rules.specs.Distances.{label_at}
 use Rattle.alt_search.specs.Exploring.{weight_in}
-use Rattle.label_certificate.specs.Labelling.{label_by}
+use Rattle.walk_rules.specs.Evidence.{label_by}
 use Rattle.label_certificate.proofs.labelling.labels_by.Given as goal
 
 -- the labels so far

@@ -1,15 +1,13 @@
--- Labels by what an exploration tells are evidence.
-use Rattle.std.proofs.Common.{◌≡◌, ℕ, ◌+◌, ◌-◌, ◌<◌, ◌≤◌, false, nat_lt, unwrap_or, Option, Some, None, Result, Ok, Err, IfOk, List, [], ◌∷◌, ◌++◌, IsSome, is_some, Contains, refl, ap, ◌∙◌, inl, inr, arith}
-use Rattle.std.proofs.lemmas.Bool.{cases_lt, le-ltb}
+-- Labels by the least weights that are told are evidence.
+use Rattle.std.proofs.Common.{◌≡◌, ℕ, ◌+◌, ◌-◌, ◌<◌, ◌≤◌, false, cond, nat_lt, unwrap_or, Option, Some, None, List, [], ◌∷◌, ◌++◌, IsSome, is_some, Contains, refl, ap, ◌∙◌, inl, inr, arith}
+use Rattle.std.proofs.lemmas.Bool.{cases_lt, lt-ltb, le-ltb}
 use Rattle.gh_base.specs.declared.edges.Hop.{Hop}
 use Rattle.gh_base.specs.Networks.{Network, LeadsToNodes}
 use Rattle.walk_rules.specs.Walks.{hops_from, IsWalk, weight_of, cost, IsLeastWeight}
 use Rattle.walk_rules.specs.Potentials.{IsFeasible}
-use Rattle.walk_rules.specs.Evidence.{is_over, is_violated, IsEvidence, IsLesser, IsEvidenceLabel}
+use Rattle.walk_rules.specs.Evidence.{is_over, is_violated, IsEvidence, IsLesser, IsEvidenceLabel, IsShownLeast, TellsLeast, label_by}
 use Rattle.walk_rules.proofs.Options.{some_or_none}
 use Rattle.walk_rules.proofs.Walking.{walk_push, feasible_below}
-use Rattle.alt_search.specs.Exploring.{TellsLeast}
-use Rattle.label_certificate.specs.Labelling.{label_by}
 
 module _ {network : Network} {bound : ℕ → Option ℕ} {start target weight : ℕ} {told : ℕ → Option ℕ} (t : TellsLeast network bound start target told) (l : IsLeastWeight network start target weight) where
   -- a walk to the target weighs at least the weight
@@ -103,7 +101,18 @@ module _ (network : Network) (bound : ℕ → Option ℕ) (start target weight :
     ];
   }
 
--- what two facts of an answer show together
-pub both_ok : {X Y : Type 0} (r : Result X Y) (P Q R : X → Type 0) → ((x : X) → P x → Q x → R x) → IfOk r P → IfOk r Q → IfOk r R
-both_ok (Ok x) P Q R f p q = f x p q
-both_ok (Err e) P Q R f p q = tt
+-- the labels by what is told, of the nodes alone
+abbrev told_labels : Network → (ℕ → Option ℕ) → (ℕ → Option ℕ) → ℕ → ℕ → Option ℕ
+told_labels network bound told weight node = cond {A = Option ℕ} (nat_lt node network.nodes) (Some (label_by (bound node) (told node) weight)) None
+
+module _ {network : Network} {bound told : ℕ → Option ℕ} {start target weight : ℕ} (leads : LeadsToNodes network) (s : start < network.nodes) (t : target < network.nodes) (f : IsFeasible network bound target) (tells : TellsLeast network bound start target told) (l : IsLeastWeight network start target weight) where
+  is_right : (node : ℕ) → node < network.nodes → IsEvidenceLabel network bound start weight node (told_labels network bound told weight node)
+  is_right node n = right_label tells l node (told_labels network bound told weight node) (ap (λ b. cond {A = Option ℕ} b (Some (label_by (bound node) (told node) weight)) None) (lt-ltb node network.nodes n))
+
+  pub told_shows_least : IsShownLeast network bound start target weight
+  told_shows_least = record {
+    label = told_labels network bound told weight;
+    each = is_right;
+    evidence = labels_are_evidence network bound start target weight (told_labels network bound told weight) leads f l is_right s t
+        (λ node far. ap (λ b. cond {A = Option ℕ} b (Some (label_by (bound node) (told node) weight)) None) (le-ltb node network.nodes far));
+  }
