@@ -68,6 +68,7 @@ one_preparation network count a b p q profile snapshot =
 
 pub landmarks_count : (network : Network) (count : ℕ) (prep : Preparation) → IsPrepOf network count prep → IsPrepOf network (length prep.landmarks) prep
 landmarks_count network count prep p = record {
+  some = p.some;
   start = p.start;
   start_is = p.start_is;
   landmarks_are = record { each = p.landmarks_are.each; within = omega arith; ends = inl refl };
