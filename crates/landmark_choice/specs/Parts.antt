@@ -33,6 +33,10 @@ pub record IsLargestPart (network : Network) (node : ℕ) : Type 0 where
 abbrev pub HasOpenHop : Network → ℕ → Type 0
 HasOpenHop network node = (hop : Hop) × Contains (network.hops node) hop × IsSome hop.weight
 
+-- a hop of some node has a weight
+abbrev pub SomeHopIsOpen : Network → Type 0
+SomeHopIsOpen network = (node : ℕ) × (node < network.nodes) × HasOpenHop network node
+
 -- no hop of a node has a weight
 abbrev pub IsBarred : Network → ℕ → Type 0
 IsBarred network node = (hop : Hop) → Contains (network.hops node) hop → IsSome hop.weight → ⊥

@@ -3,7 +3,7 @@ ghost use Rattle.std.specs.Prelude.{◌≡◌, ◌≢◌, ◌↔◌, ◌+◌, �
 ghost use Rattle.gh_base.specs.declared.edges.Hop.{Hop};
 ghost use Rattle.gh_base.specs.Networks.{Network};
 ghost use Rattle.landmark_choice.specs.Grouping.{IsForest, Leads, AreGrouped};
-ghost use Rattle.landmark_choice.specs.Parts.{IsLargestPart, HasOpenHop, IsBarred};
+ghost use Rattle.landmark_choice.specs.Parts.{IsLargestPart, HasOpenHop, SomeHopIsOpen, IsBarred};
 
 use crate::groups::{apart, join, sizes};
 use gh_base::{FreshView, NoMemory, NodeId, RoadView};
@@ -20,7 +20,7 @@ pub fn largest_part<V: FreshView + Drop, W: FreshView>(
 ) -> Result<Option<NodeId>, NoMemory>
     ensures largest { IfOk result (λ part. IfSome part (λ node. IsLargestPart (V.network out.now) node.0)) }
     ensures none { IfOk result (λ part. IfNone part ((node : ℕ) → node < (V.network out.now).nodes → IsBarred (V.network out.now) node)) }
-    ensures some { IfOk result (λ part. IfSome part (λ _. (node : ℕ) × (node < (V.network out.now).nodes) × HasOpenHop (V.network out.now) node)) }
+    ensures some { IfOk result (λ part. IfSome part (λ _. SomeHopIsOpen (V.network out.now))) }
 {
     let mut view = out.again();
     let count = out.node_count();

@@ -6,4 +6,5 @@ pub mod Spread
 pub mod Keeping
 pub mod Prepared
 pub mod Unique
+pub mod Unpacking
 pub mod Foremost

@@ -12,7 +12,7 @@ use Rattle.walk_rules.specs.Distances.{IsLabel}
 use Rattle.walk_rules.proofs.Walking.{walk_within}
 use Rattle.walk_rules.proofs.Single.{one_label}
 use Rattle.landmark_choice.specs.Farthest.{IsNearAt, IsFarthest, AreFarthest, IsChoice}
-use Rattle.landmark_choice.specs.Parts.{IsLargestPart, HasOpenHop, IsBarred}
+use Rattle.landmark_choice.specs.Parts.{IsLargestPart, SomeHopIsOpen, IsBarred}
 use Rattle.landmark_prep.specs.declared.labels.PackedLabels.{PackedLabels}
 use Rattle.landmark_prep.specs.Packing.{unpacked, unpacked_labels, packed_nodes, AreLong, AreParts}
 use Rattle.landmark_prep.specs.Preparations.{IsGreatestDistance, grain_of, AreLabelsOf, IsPrepOf}
@@ -127,12 +127,13 @@ first_chosen [] far e = absurd (cc)
 first_chosen (l ∷ chosen) far e = let same : l ≡ far = cc in ap (λ (n : NodeId). n.0) same
 
 -- what is made of the farthest rule's choice, the grain of its distance and the rows of its landmarks is the preparation
-pub prep_made : (network : Network) (count start : ℕ) (chosen : List NodeId) (far : NodeId) (profile grain : ℕ) (snapshot : List ℕ) (table : List PackedLabels) → IsLargestPart network start → IsChoice network start count (map (λ node. node.0) chosen) → slice_get chosen 0 ≡ Some far → ((distance : ℕ) → IsLeastWeight network start far.0 distance → grain ≡ grain_of distance) → AllZip (AreRowsOf network grain) chosen table → IsPrepOf network count (record { profile = profile; snapshot = snapshot; landmarks = map (λ node. node.0) chosen; grain = grain; labels = map (unpacked_labels grain) table })
+pub prep_made : (network : Network) (count start : ℕ) (chosen : List NodeId) (far : NodeId) (profile grain : ℕ) (snapshot : List ℕ) (table : List PackedLabels) → SomeHopIsOpen network → IsLargestPart network start → IsChoice network start count (map (λ node. node.0) chosen) → slice_get chosen 0 ≡ Some far → ((distance : ℕ) → IsLeastWeight network start far.0 distance → grain ≡ grain_of distance) → AllZip (AreRowsOf network grain) chosen table → IsPrepOf network count (record { profile = profile; snapshot = snapshot; landmarks = map (λ node. node.0) chosen; grain = grain; labels = map (unpacked_labels grain) table })
 unfolding first_is_far
-prep_made network count start chosen far profile grain snapshot table part choice first is rows =
+prep_made network count start chosen far profile grain snapshot table some part choice first is rows =
     let distance = choice.each.first_distance in
     let greatest = first_is_far network start (slice_index (map (λ node. node.0) chosen) 0) distance choice.each.first in
     record {
+      some = some;
       start = start;
       start_is = part;
       landmarks_are = choice;
@@ -154,7 +155,9 @@ pub part_of : (network : Network) (part : Option NodeId) (start : NodeId) → If
 part_of network part start l e = subst (λ (p : Option NodeId). IfSome p (λ node. IsLargestPart network node.0)) e l
 
 -- where there is a part, some hop has a weight
-pub not_barred : (network : Network) (part : Option NodeId) (start : NodeId) → IfSome part (λ _. (node : ℕ) × (node < network.nodes) × HasOpenHop network node) → part ≡ Some start → ((node : ℕ) → node < network.nodes → IsBarred network node) → ⊥
-not_barred network part start some e barred =
-    let open_hop = subst (λ (p : Option NodeId). IfSome p (λ _. (node : ℕ) × (node < network.nodes) × HasOpenHop network node)) e some in
-    barred open_hop.0 open_hop.1 open_hop.2.0 open_hop.2.1 open_hop.2.2
+pub open_of : (network : Network) (part : Option NodeId) (start : NodeId) → IfSome part (λ _. SomeHopIsOpen network) → part ≡ Some start → SomeHopIsOpen network
+open_of network part start some e = subst (λ (p : Option NodeId). IfSome p (λ _. SomeHopIsOpen network)) e some
+
+-- where some hop has a weight, not every node is barred
+pub open_not_barred : (network : Network) → SomeHopIsOpen network → ((node : ℕ) → node < network.nodes → IsBarred network node) → ⊥
+open_not_barred network some barred = barred some.0 some.1 some.2.0 some.2.1 some.2.2

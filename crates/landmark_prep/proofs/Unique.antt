@@ -46,7 +46,7 @@ all_labels network grain (l ∷ landmarks) (x ∷ xs) [] p q = absurd q
 all_labels network grain (l ∷ landmarks) (x ∷ xs) (y ∷ ys) p q =
     ap (λ (z : Labels). z ∷ xs) (one_labels network grain l x y p.0 q.0) ∙ ap (λ (zs : List Labels). y ∷ zs) (all_labels network grain landmarks xs ys p.1 q.1)
 
-same_parts : (a b : Preparation) → a.profile ≡ b.profile → a.snapshot ≡ b.snapshot → a.landmarks ≡ b.landmarks → a.grain ≡ b.grain → a.labels ≡ b.labels → a ≡ b
+pub same_parts : (a b : Preparation) → a.profile ≡ b.profile → a.snapshot ≡ b.snapshot → a.landmarks ≡ b.landmarks → a.grain ≡ b.grain → a.labels ≡ b.labels → a ≡ b
 same_parts a b p s l g z =
     ap (λ (x : ℕ). record { profile = x; snapshot = a.snapshot; landmarks = a.landmarks; grain = a.grain; labels = a.labels }) p
     ∙ ap (λ (x : List ℕ). record { profile = b.profile; snapshot = x; landmarks = a.landmarks; grain = a.grain; labels = a.labels }) s
@@ -68,6 +68,7 @@ one_preparation network count a b p q profile snapshot =
 
 pub landmarks_count : (network : Network) (count : ℕ) (prep : Preparation) → IsPrepOf network count prep → IsPrepOf network (length prep.landmarks) prep
 landmarks_count network count prep p = record {
+  some = p.some;
   start = p.start;
   start_is = p.start_is;
   landmarks_are = record { each = p.landmarks_are.each; within = omega arith; ends = inl refl };

@@ -1,6 +1,7 @@
 -- Laws of preparations, each a statement of its own.
-use Rattle.std.specs.Prelude.{◌≡◌, ℕ, Option, List, length}
+use Rattle.std.specs.Prelude.{◌≡◌, ℕ, ◌<◌, Option, List, length}
 use Rattle.gh_base.specs.Networks.{Network}
+use Rattle.landmark_choice.specs.Parts.{IsBarred}
 use Rattle.landmark_prep.specs.Preparations.{Preparation, nodes_of, IsPrepOf}
 use Rattle.landmark_prep.specs.Bounds.{AreFit}
 use Rattle.landmark_prep.specs.Choosing.{AreActive}
@@ -10,6 +11,11 @@ abbrev pub PreparationsAreOne : Type 0
 PreparationsAreOne = (network : Network) (count : ℕ) (one other : Preparation) →
     IsPrepOf network count one → IsPrepOf network count other →
     one.profile ≡ other.profile → one.snapshot ≡ other.snapshot → one ≡ other
+
+-- where a network has a preparation, not every node is barred
+abbrev pub PreparedRoadsAreOpen : Type 0
+PreparedRoadsAreOpen = (network : Network) (count : ℕ) (prep : Preparation) → IsPrepOf network count prep →
+    ((node : ℕ) → node < network.nodes → IsBarred network node) → ⊥
 
 -- a preparation is also the one for as many landmarks as it has
 abbrev pub LandmarksAreTheCount : Type 0

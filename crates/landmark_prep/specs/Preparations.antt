@@ -5,7 +5,7 @@ use Rattle.gh_base.specs.Networks.{Network}
 use Rattle.walk_rules.specs.Walks.{IsLeastWeight}
 use Rattle.walk_rules.specs.Distances.{in_grains, AreLabelsFrom, AreLabelsTo, label_at}
 use Rattle.landmark_choice.specs.Farthest.{IsChoice}
-use Rattle.landmark_choice.specs.Parts.{IsLargestPart}
+use Rattle.landmark_choice.specs.Parts.{IsLargestPart, SomeHopIsOpen}
 use Rattle.landmark_prep.specs.Packing.{Labels}
 
 -- a profile, the limits at which it was prepared, and its landmarks with their labels, in grains of so many ms
@@ -38,8 +38,9 @@ pub record AreLabelsOf (network : Network) (grain landmark : ℕ) (labels : Labe
   pub from_it : AreLabelsFrom (in_grains grain network) (65534 * grain) landmark (label_at labels.from)
   pub to_it : AreLabelsTo (in_grains grain network) (65534 * grain) landmark (label_at labels.to)
 
--- the preparation of a network: the farthest rule chooses at most so many landmarks in its largest part, and the greatest distance from that part's least node gives the grain
+-- the preparation of a network in which some hop has a weight: the farthest rule chooses at most so many landmarks in its largest part, and the greatest distance from that part's least node gives the grain
 pub record IsPrepOf (network : Network) (count : ℕ) (prep : Preparation) : Type 0 where
+  pub some : SomeHopIsOpen network
   pub start : ℕ
   pub start_is : IsLargestPart network start
   pub landmarks_are : IsChoice network start count prep.landmarks

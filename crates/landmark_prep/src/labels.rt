@@ -1,5 +1,5 @@
 //! Labels as they are kept.
-ghost use Rattle.std.specs.Prelude.{◌≡◌, ◌<◌, ◌≤◌, ◌^◌, [], ◌∷◌, ◌++◌, length, slice_index, OnOk, OnErr};
+ghost use Rattle.std.specs.Prelude.{◌≡◌, ◌↔◌, ◌<◌, ◌≤◌, ◌^◌, [], ◌∷◌, ◌++◌, IsTrue, length, slice_index, OnOk, OnErr};
 ghost use Rattle.landmark_prep.specs.Packing.{packed, unpacked, packed_at};
 
 use gh_base::{NoMemory, NodeId, Sequence};
@@ -64,6 +64,21 @@ impl LabelTable {
         self.rows.push(labels).map_err(|_| NoMemory)
     }
 
+    /// Whether another has the same numbers.
+    pub(crate) fn is_same(&self, other: &LabelTable) -> bool
+        ensures { IsTrue result ↔ (self.now ≡ other.now) }
+    {
+        if self.rows.len() != other.rows.len() {
+            return false;
+        }
+        for place in 0..self.rows.len() {
+            if !are_same(&self.rows[place], &other.rows[place]) {
+                return false;
+            }
+        }
+        true
+    }
+
     /// The labels of the landmark at a place.
     pub(crate) fn at(&self, landmark: u32) -> &PackedLabels
         requires { landmark < length self.now }
@@ -71,6 +86,13 @@ impl LabelTable {
     {
         &self.rows[landmark as usize]
     }
+}
+
+/// Whether two landmarks have the same numbers.
+fn are_same(labels: &PackedLabels, other: &PackedLabels) -> bool
+    ensures { IsTrue result ↔ (labels.now ≡ other.now) }
+{
+    labels.from.as_slice() == other.from.as_slice() && labels.to.as_slice() == other.to.as_slice()
 }
 
 /// A label as a number of grains.

@@ -1,11 +1,16 @@
 //! The laws. Each function does nothing: what it ensures is the law.
-ghost use Rattle.landmark_prep.specs.Laws.{PreparationsAreOne, LandmarksAreTheCount, NodesAreLabelled, PreparationsFit, ActiveLandmarksAreOne};
+ghost use Rattle.landmark_prep.specs.Laws.{PreparationsAreOne, PreparedRoadsAreOpen, LandmarksAreTheCount, NodesAreLabelled, PreparationsFit, ActiveLandmarksAreOne};
 
 /// A network has one preparation, which has labels for each node.
 pub fn preparations_are_one()
     ensures one { PreparationsAreOne }
     ensures count { LandmarksAreTheCount }
     ensures nodes { NodesAreLabelled }
+{}
+
+/// Where a network has a preparation, some hop has a weight.
+pub fn prepared_roads_are_open()
+    ensures { PreparedRoadsAreOpen }
 {}
 
 /// The labels of a preparation fit its network, so its potential is feasible.

@@ -19,7 +19,9 @@ pub use active::Active;
 pub use labels::LabelTable;
 pub use landmark_choice::Chosen;
 pub use landmark_potential::{Goal, LandmarkPotential};
-pub use laws::{active_landmarks_are_one, preparations_are_one, preparations_fit};
+pub use laws::{
+    active_landmarks_are_one, preparations_are_one, preparations_fit, prepared_roads_are_open,
+};
 pub use making::{Made, make_prep};
 pub use preparation::{Prep, of_parts};
 

@@ -1,5 +1,5 @@
 //! A preparation, and how it is read.
-ghost use Rattle.std.specs.Prelude.{◌≡◌, ◌<◌, ◌≤◌, length, map};
+ghost use Rattle.std.specs.Prelude.{◌≡◌, ◌↔◌, ◌<◌, ◌≤◌, IsTrue, length, map};
 ghost use Rattle.walk_rules.specs.Distances.{label_at};
 ghost use Rattle.landmark_prep.specs.Packing.{unpacked_labels, AreParts};
 ghost use Rattle.landmark_prep.specs.Preparations.{nodes_of};
@@ -69,6 +69,22 @@ pub fn of_parts(
 }
 
 impl Prep {
+    /// Whether another is the same. The snapshots and the labels are compared last.
+    pub fn is_same(&self, other: &Prep) -> bool
+        ensures { IsTrue result ↔ (self.now ≡ other.now) }
+    {
+        if self.profile != other.profile || self.grain != other.grain {
+            return false;
+        }
+        if !are_nodes_same(&self.landmarks, &other.landmarks) {
+            return false;
+        }
+        if !are_limits_same(&self.snapshot, &other.snapshot) {
+            return false;
+        }
+        self.labels.is_same(&other.labels)
+    }
+
     /// The profile, by its number.
     pub fn profile(&self) -> u32
         ensures { result ≡ self.now.profile }
@@ -128,4 +144,16 @@ impl Prep {
     {
         unpack(&self.labels.at(landmark).to, node, self.grain)
     }
+}
+
+fn are_nodes_same(nodes: &Chosen, others: &Chosen) -> bool
+    ensures { IsTrue result ↔ (nodes.now ≡ others.now) }
+{
+    nodes.as_slice() == others.as_slice()
+}
+
+fn are_limits_same(limits: &LimitList, others: &LimitList) -> bool
+    ensures { IsTrue result ↔ (limits.now ≡ others.now) }
+{
+    limits.as_slice() == others.as_slice()
 }

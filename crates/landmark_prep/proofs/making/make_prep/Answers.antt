@@ -1,7 +1,7 @@
 use Rattle.std.proofs.Common.{◌<◌, All, List, subst, sym, arith}
 use Rattle.std.proofs.lemmas.List.{length-map}
 use Rattle.gh_base.specs.declared.edges.NodeId.{NodeId}
-use Rattle.landmark_prep.proofs.Prepared.{part_of, not_barred, first_within, chosen_within, parts_made, prep_made}
+use Rattle.landmark_prep.proofs.Prepared.{part_of, open_of, open_not_barred, first_within, chosen_within, parts_made, prep_made}
 use Rattle.landmark_prep.proofs.making.make_prep.Goals as goal
 
 pub grain_for-requires-clause-far : goal.grain_for-requires-clause-far
@@ -33,9 +33,10 @@ pub returns-clause-prep : goal.returns-clause-prep
 returns-clause-prep g c =
     let network = g.V.RoadView.network c.args.out.now in
     let part = part_of network c.in_ok-start.field-0 c.in-Some.start c.in_ok-start.ensures.largest c.in-Some.is in
-    rw c.of_parts.ensures (prep_made network c.args.count c.in-Some.start.0 c.in_ok-landmarks.landmarks c.get.result.now c.args.profile c.in_ok-grain.grain c.args.snapshot c.in_ok-labels.labels part c.in_ok-landmarks.ensures c.get.ensures c.in_ok-grain.ensures.is (rw c.as_slice.ensures at c.in_ok-labels.ensures))
+    let some = open_of network c.in_ok-start.field-0 c.in-Some.start c.in_ok-start.ensures.some c.in-Some.is in
+    rw c.of_parts.ensures (prep_made network c.args.count c.in-Some.start.0 c.in_ok-landmarks.landmarks c.get.result.now c.args.profile c.in_ok-grain.grain c.args.snapshot c.in_ok-labels.labels some part c.in_ok-landmarks.ensures c.get.ensures c.in_ok-grain.ensures.is (rw c.as_slice.ensures at c.in_ok-labels.ensures))
 
 pub returns-clause-none : goal.returns-clause-none
 returns-clause-none g c =
     let network = g.V.RoadView.network c.args.out.now in
-    (λ no. absurd no, λ barred. not_barred network c.in_ok-start.field-0 c.in-Some.start c.in_ok-start.ensures.some c.in-Some.is barred)
+    (λ no. absurd no, λ barred. absurd (open_not_barred network (open_of network c.in_ok-start.field-0 c.in-Some.start c.in_ok-start.ensures.some c.in-Some.is) barred))
