@@ -6,3 +6,4 @@ pub mod Marks
 pub mod Merges
 pub mod Nodes
 pub mod Numbers
+pub mod FirstRefusal

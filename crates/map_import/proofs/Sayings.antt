@@ -92,7 +92,7 @@ taken false true c e f g x laid h = cc
 taken false false true e f g x laid h = cc
 taken false false false e f g x laid h = cc
 
-abbrev one_more : (ℤ → Option Point) → Laid → Piece → Laid
+abbrev pub one_more : (ℤ → Option Point) → Laid → Piece → Laid
 one_more place from piece = record {
   ids = with_towers from.ids piece.refs;
   edges = from.edges ++ edge_of place (with_towers from.ids piece.refs) piece ∷ [];

@@ -15,7 +15,7 @@ mod towers;
 mod used;
 
 pub use faults::ImportFault;
-pub use laws::{edges_are_pieces, pieces_join_towers};
+pub use laws::{edges_are_pieces, pieces_join_towers, the_first_that_cannot_stand_is_refused};
 pub use roads::{Roads, import};
 
 #[cfg(test)]
