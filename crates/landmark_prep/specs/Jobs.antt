@@ -1,5 +1,5 @@
 -- The jobs of threads, and the rows of labels that they give.
-use Rattle.std.specs.Prelude.{◌≡◌, ℕ, ◌*◌, ◌≤◌, List, [], ◌∷◌, Option, Result, Ok, length, map}
+use Rattle.std.specs.Prelude.{◌≡◌, ℕ, ◌*◌, ◌≤◌, List, [], ◌∷◌, Option, Result, Ok, IfOk, length, map}
 use Rattle.gh_base.specs.declared.edges.NodeId.{NodeId}
 use Rattle.gh_base.specs.declared.faults.NoMemory.{NoMemory}
 use Rattle.gh_base.specs.Networks.{Network}
@@ -29,6 +29,10 @@ pub record IsRow (network : Network) (grain : ℕ) (job : Job) (row : List ℕ) 
   pub long : length row ≡ network.nodes
   pub few : length row ≤ 4294967295
   pub labels : AreLabelsAlong job.way (in_grains grain network) (65534 * grain) job.landmark.0 (label_at (map (unpacked grain) row))
+
+-- a job gives its row, where there is memory
+abbrev pub Gives : Network → ℕ → Job → Result (List ℕ) NoMemory → Type 0
+Gives network grain job row = IfOk row (λ row. IsRow network grain job row)
 
 -- both rows of a landmark
 pub record AreRowsOf (network : Network) (grain : ℕ) (landmark : NodeId) (labels : PackedLabels) : Type 0 where

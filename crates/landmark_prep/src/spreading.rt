@@ -3,7 +3,7 @@ ghost use Rattle.std.specs.Prelude.{◌≡◌, ℕ, ◌%◌, ◌^◌, ◌<◌, �
 ghost use Rattle.std.specs.List.{AllZip};
 ghost use Rattle.walk_rules.specs.Walks.{AreTurned};
 ghost use Rattle.landmark_prep.specs.Packing.{packed};
-ghost use Rattle.landmark_prep.specs.Jobs.{jobs_for, rows_of, IsRow, AreRowsOf};
+ghost use Rattle.landmark_prep.specs.Jobs.{jobs_for, rows_of, IsRow, Gives, AreRowsOf};
 
 use crate::labels::{LabelTable, PackedLabels, pack};
 use gh_base::{FreshView, LabelList, NoMemory, NodeId, RoadView, Sequence};
@@ -26,7 +26,8 @@ pub struct Job {
     pub way: Way,
 }
 
-/// The labels of each landmark in whole grains, each way of each in a thread of its own.
+/// The labels of each landmark in whole grains, each way of each in a thread of its own, at most as many
+/// threads at a time as there are processors.
 pub fn spread_all<R: Threads + Sync, V: FreshView + Sync + Drop, W: FreshView + Sync + Drop>(
     rt: &R,
     alloc: Global,
@@ -46,8 +47,46 @@ pub fn spread_all<R: Threads + Sync, V: FreshView + Sync + Drop, W: FreshView + 
     pair_up(alloc, rows)
 }
 
-/// What each job gives, in their order.
+/// What each job gives, in their order. A thread takes the room of a search, so no more are started than
+/// run at once.
 fn run_jobs<R: Threads + Sync, V: FreshView + Sync + Drop, W: FreshView + Sync + Drop>(
+    rt: &R,
+    alloc: Global,
+    out: &V,
+    back: &W,
+    grain: u64,
+    jobs: Vec<Job>,
+) -> Result<Vec<Result<Sequence<u16>, NoMemory>>, NoMemory>
+    requires nodes { All (λ job. job.landmark.0 < (V.network out.now).nodes) jobs.items }
+    requires turned { AreTurned (V.network out.now) (W.network back.now) }
+    requires fine { 1 ≤ grain }
+    requires coarse { grain ≤ 2 ^ 46 }
+    ensures { IfOk result (λ rows. AllZip (Gives (V.network out.now) grain) jobs.items rows.items) }
+{
+    let most = processors(rt);
+    let mut rows = Vec::new(alloc);
+    let mut left = jobs;
+    'batches: while !left.is_empty() {
+        let later = left.split_off(most.min(left.len()))?;
+        let mut more = run_batch(rt, alloc, out, back, grain, left)?;
+        rows.append(&mut more)?;
+        left = later;
+    }
+    Ok(rows)
+}
+
+/// How many threads run at once: one where that can't be told.
+fn processors(rt: &impl Threads) -> usize
+    ensures { 1 ≤ result }
+{
+    match thread::available_parallelism(rt) {
+        Ok(count) => count.get(),
+        Err(_) => 1,
+    }
+}
+
+/// What each of some jobs gives, in their order, each in a thread of its own.
+fn run_batch<R: Threads + Sync, V: FreshView + Sync + Drop, W: FreshView + Sync + Drop>(
     rt: &R,
     alloc: Global,
     out: &V,
@@ -61,7 +100,7 @@ fn run_jobs<R: Threads + Sync, V: FreshView + Sync + Drop, W: FreshView + Sync +
     requires coarse { grain ≤ 2 ^ 46 }
     ensures count { IfOk result (λ rows. vec_len rows ≡ vec_len jobs) }
     ensures each { IfOk result (λ rows. (i : ℕ) (d : _) (e : _) → i < vec_len jobs →
-        IfOk (slice_index_or rows.items i d) (λ row. IsRow (V.network out.now) grain (slice_index_or jobs.items i e) row)) }
+        Gives (V.network out.now) grain (slice_index_or jobs.items i e) (slice_index_or rows.items i d)) }
 {
     thread::map_vec(rt, jobs, &|job| spread_one(alloc, out, back, grain, job))
 }
