@@ -12,7 +12,7 @@ use Rattle.alt_search.specs.declared.explored.Explored.{Explored}
 use Rattle.alt_search.specs.declared.reach.Reach.{Reach}
 use Rattle.alt_search.specs.Progress.{reach_at}
 use Rattle.alt_search.specs.Exploring.{told, weight_in, nodes_in}
-use Rattle.landmark_choice.specs.Farthest.{IsNearAt, IsNear, AreNear, IsFarthest, AreFarthest, lesser, distance_at, IsGreatest}
+use Rattle.landmark_choice.specs.Farthest.{IsNearAt, IsNear, AreNear, IsFarthest, AreFarthest, IsGreatestDistance, lesser, distance_at, IsGreatest}
 
 only_one : (s t : ℕ) → Contains (s ∷ []) t → s ≡ t
 only_one s t (zero, l, e) = e
@@ -110,6 +110,21 @@ farthest_of network sources list node d n g = record {
   greatest = λ other e a. g.greatest other e (near_some network sources other e (distance_at list other) (n other) a);
   first = λ other e a l. g.first other e (near_some network sources other e (distance_at list other) (n other) a) l;
 }
+
+-- the farthest from one node is at the greatest distance from it
+first_is_far : (network : Network) (start node d : ℕ) → IsFarthest network (start ∷ []) node d → IsGreatestDistance network start d
+first_is_far network start node d f = record {
+  node = node;
+  walk = subst (λ (s : ℕ). IsLeastWeight network s node d) (sym (only_one start f.at.source f.at.one_of)) f.at.walk;
+  greatest = λ other e walk. f.greatest other e (near_one network start other (Some e) walk);
+}
+
+pub greatest_from : (network : Network) (start : ℕ) (list : List (Option ℕ)) (node d : ℕ) → AreNear network (start ∷ []) (distance_at list) → IsGreatest list node d → IsGreatestDistance network start d
+greatest_from network start list node d n g = first_is_far network start node d (farthest_of network (start ∷ []) list node d n g)
+
+-- from no node there is no distance
+pub near_none : (network : Network) (near : ℕ → Option ℕ) → ((node : ℕ) → near node ≡ None) → AreNear network [] near
+near_none network near none node = subst (λ (d : Option ℕ). IsNear network [] node d) (sym (none node)) (λ source c. absurd (omega (arith, c.1)))
 
 -- where a list has no distance above 0, no node is at one
 pub all_near : (network : Network) (sources : List ℕ) (list : List (Option ℕ)) → AreNear network sources (distance_at list) → ((node d : ℕ) → distance_at list node ≡ Some d → d ≡ 0) → (node d : ℕ) → IsNearAt network sources node d → d ≡ 0

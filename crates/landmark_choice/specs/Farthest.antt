@@ -36,6 +36,12 @@ pub record IsChoice (network : Network) (start count : ℕ) (landmarks : List �
   pub within : length landmarks ≤ count
   pub ends : (length landmarks ≡ count) ⊎ ((node d : ℕ) → IsNearAt network landmarks node d → d ≡ 0)
 
+-- the greatest distance from a node to one that it reaches
+pub record IsGreatestDistance (network : Network) (from distance : ℕ) : Type 0 where
+  pub node : ℕ
+  pub walk : IsLeastWeight network from node distance
+  pub greatest : (other d : ℕ) → IsLeastWeight network from other d → d ≤ distance
+
 -- the lesser of two distances, of which either may be none
 abbrev pub lesser : Option ℕ → Option ℕ → Option ℕ
 lesser (Some x) (Some y) = Some (min x y)

@@ -1,9 +1,9 @@
 //! Nodes far from one another.
-ghost use Rattle.std.specs.Prelude.{◌≡◌, ℕ, ◌<◌, ◌≤◌, ◌^◌, Some, None, [], ◌∷◌, length, map, IfOk, IfNone, IfSome};
+ghost use Rattle.std.specs.Prelude.{◌≡◌, ℕ, ◌<◌, ◌≤◌, ◌^◌, Some, None, List, [], ◌∷◌, ◌++◌, length, map, IfOk, IfNone, IfSome};
 ghost use Rattle.gh_base.specs.Networks.{Network};
 ghost use Rattle.walk_rules.specs.Distances.{IsReach};
 ghost use Rattle.alt_search.specs.Exploring.{weight_in, nodes_in};
-ghost use Rattle.landmark_choice.specs.Farthest.{AreNear, IsChoice, ChoicesAreFronts, IsGreatest, distance_at, lesser};
+ghost use Rattle.landmark_choice.specs.Farthest.{AreNear, IsChoice, IsGreatestDistance, ChoicesAreFronts, IsGreatest, distance_at, lesser};
 
 use alt_search::{Explored, explore_all};
 use gh_base::{FreshView, NoMemory, NodeId, RoadView, Sequence};
@@ -12,40 +12,51 @@ use std::alloc::Global;
 /// The landmarks, in the order of the choice.
 pub type Chosen = Sequence<NodeId>;
 
+/// What the farthest rule chooses.
+#[derive(Drop)]
+pub struct Choice {
+    /// The landmarks, in the order of the choice.
+    pub landmarks: Chosen,
+    /// The greatest distance from the start to a node that it reaches, in ms.
+    pub far_ms: u128,
+}
+
 /// Landmarks: first the node farthest from `start`, and then each time the one farthest from the nearest
 /// landmark so far. A tie goes to the least node. There are `count` (1 to 16) of them, or fewer where
 /// no node that can be reached is at a distance above 0 from them.
 ///
-/// In a row of five, from node 0 and with count 2, these are 4 and 0.
+/// In a row of five, from node 0 and with count 2, these are 4 and 0. Nothing is spread from the last.
 pub fn choose<V: FreshView + Drop>(
     alloc: Global,
     view: &V,
     start: NodeId,
     count: u32,
-) -> Result<Chosen, NoMemory>
+) -> Result<Choice, NoMemory>
     requires start { start.0 < (V.network view.now).nodes }
     requires some { 1 ≤ count }
-    ensures { IfOk result (λ chosen. IsChoice (V.network view.now) start.0 count (map (λ node. node.0) chosen)) }
+    ensures landmarks { IfOk result (λ choice. IsChoice (V.network view.now) start.0 count (map (λ node. node.0) choice.landmarks)) }
+    ensures far { IfOk result (λ choice. IsGreatestDistance (V.network view.now) start.0 choice.far_ms) }
 {
     let from_start = distances(alloc, view, start)?;
-    let Some((first, _far)) = greatest(&from_start) else {
+    let Some((first, far_ms)) = greatest(&from_start) else {
         unreachable!()
     };
-    let mut chosen = Chosen::new(alloc);
-    chosen.push(first)?;
-    let mut near = distances(alloc, view, first)?;
-    'more: while chosen.len() < count as usize {
+    let mut landmarks = Chosen::new(alloc);
+    landmarks.push(first)?;
+    let mut near = forget(from_start);
+    let mut last = first;
+    'more: while landmarks.len() < count as usize {
+        near = add_source(alloc, view, last, near)?;
         let Some((node, far)) = greatest(&near) else {
-            return Ok(chosen)
+            return Ok(Choice { landmarks, far_ms })
         };
         if far == 0 {
-            return Ok(chosen);
+            return Ok(Choice { landmarks, far_ms });
         }
-        let own = distances(alloc, view, node)?;
-        chosen.push(node)?;
-        take_nearer(&mut near, &own);
+        landmarks.push(node)?;
+        last = node;
     }
-    Ok(chosen)
+    Ok(Choice { landmarks, far_ms })
 }
 
 /// A choice is determined, and one with a lesser count is its front. It does nothing: its contract is the law.
@@ -67,6 +78,38 @@ fn distances<V: FreshView + Drop>(
     let mut again = view.again();
     let explored = explore_all(alloc, &mut again, node)?;
     weights(alloc, &explored, view.node_count())
+}
+
+/// The distances from the nearest of some nodes and one more.
+fn add_source<V: FreshView + Drop>(
+    alloc: Global,
+    view: &V,
+    node: NodeId,
+    near: Vec<Option<u128>>,
+) -> Result<Vec<Option<u128>>, NoMemory>
+    requires node { node.0 < (V.network view.now).nodes }
+    requires long { length near.items ≡ (V.network view.now).nodes }
+    ensures count { IfOk result (λ list. length list.items ≡ (V.network view.now).nodes) }
+    ensures few { IfOk result (λ list. length list.items < 2 ^ 32) }
+    ensures near { IfOk result (λ list. (sources : List ℕ) → AreNear (V.network view.now) sources (distance_at near.items) →
+        AreNear (V.network view.now) (sources ++ node.0 ∷ []) (distance_at list.items)) }
+{
+    let own = distances(alloc, view, node)?;
+    let mut near = near;
+    take_nearer(&mut near, &own);
+    Ok(near)
+}
+
+/// No distance at each node: so far they are from no node.
+fn forget(distances: Vec<Option<u128>>) -> Vec<Option<u128>>
+    ensures count { length result.items ≡ length distances.items }
+    ensures none { (node : ℕ) → distance_at result.items node ≡ None }
+{
+    let mut distances = distances;
+    for i in 0..distances.len() {
+        distances[i] = None;
+    }
+    distances
 }
 
 /// The weight that is told of each node.

@@ -9,7 +9,7 @@ mod farthest;
 mod groups;
 mod parts;
 
-pub use farthest::{Chosen, choices_are_fronts, choose};
+pub use farthest::{Choice, Chosen, choices_are_fronts, choose};
 pub use parts::largest_part;
 
 #[cfg(test)]

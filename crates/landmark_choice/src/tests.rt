@@ -1,5 +1,5 @@
 //! Landmarks and parts of small roads, as lists of hops.
-use crate::{Chosen, choose, largest_part};
+use crate::{Choice, choose, largest_part};
 use alt_search::{Adjacency, lead_to_rows};
 use gh_base::{DirEdge, EdgeId, Hop, Hops, NoMemory, NodeId};
 use std::alloc::Global;
@@ -59,8 +59,9 @@ fn one_way(alloc: Global, from: u32, to: u32) -> Result<Vec<Hops>, NoMemory> {
     Ok(rows)
 }
 
-fn check(rt: &impl Abort, chosen: &Chosen, expected: &[NodeId]) {
-    assert_eq!(rt; chosen.as_slice(), expected);
+fn check(rt: &impl Abort, choice: &Choice, expected: &[NodeId], far_ms: u128) {
+    assert_eq!(rt; choice.landmarks.as_slice(), expected);
+    assert_eq!(rt; choice.far_ms, far_ms);
 }
 
 #[test]
@@ -72,12 +73,12 @@ fn in_a_row_of_three_the_ends_come_first(rt: HostRuntime) -> Result<(), Fail> {
     assert_eq!(rt; rows.len(), 3);
     let view = Adjacency::new(rows);
     assert_eq!(rt; largest_part(rt.alloc(), &view, &view)?, Some(NodeId(0)));
-    let one: Chosen = choose(rt.alloc(), &view, NodeId(0), 1)?;
-    check(&rt, &one, &[NodeId(2)]);
-    let two: Chosen = choose(rt.alloc(), &view, NodeId(0), 2)?;
-    check(&rt, &two, &[NodeId(2), NodeId(0)]);
-    let all: Chosen = choose(rt.alloc(), &view, NodeId(0), 16)?;
-    check(&rt, &all, &[NodeId(2), NodeId(0), NodeId(1)]);
+    let one: Choice = choose(rt.alloc(), &view, NodeId(0), 1)?;
+    check(&rt, &one, &[NodeId(2)], 133434);
+    let two: Choice = choose(rt.alloc(), &view, NodeId(0), 2)?;
+    check(&rt, &two, &[NodeId(2), NodeId(0)], 133434);
+    let all: Choice = choose(rt.alloc(), &view, NodeId(0), 16)?;
+    check(&rt, &all, &[NodeId(2), NodeId(0), NodeId(1)], 133434);
     Ok(())
 }
 
@@ -90,8 +91,8 @@ fn of_two_pairs_the_first_is_taken(rt: HostRuntime) -> Result<(), Fail> {
     assert_eq!(rt; rows.len(), 4);
     let view = Adjacency::new(rows);
     assert_eq!(rt; largest_part(rt.alloc(), &view, &view)?, Some(NodeId(0)));
-    let all: Chosen = choose(rt.alloc(), &view, NodeId(0), 16)?;
-    check(&rt, &all, &[NodeId(1), NodeId(0)]);
+    let all: Choice = choose(rt.alloc(), &view, NodeId(0), 16)?;
+    check(&rt, &all, &[NodeId(1), NodeId(0)], 66717);
     Ok(())
 }
 

@@ -11,42 +11,16 @@ use Rattle.walk_rules.specs.Walks.{IsLeastWeight, IsAtMostEachWalk}
 use Rattle.walk_rules.specs.Distances.{IsLabel}
 use Rattle.walk_rules.proofs.Walking.{walk_within}
 use Rattle.walk_rules.proofs.Single.{one_label}
-use Rattle.landmark_choice.specs.Farthest.{IsNearAt, IsFarthest, AreFarthest, IsChoice}
+use Rattle.landmark_choice.specs.Farthest.{IsNearAt, IsFarthest, AreFarthest, IsChoice, IsGreatestDistance}
 use Rattle.landmark_choice.specs.Parts.{IsLargestPart, SomeHopIsOpen, IsBarred}
 use Rattle.landmark_prep.specs.declared.labels.PackedLabels.{PackedLabels}
 use Rattle.landmark_prep.specs.Packing.{unpacked, unpacked_labels, packed_nodes, AreLong, AreParts}
-use Rattle.landmark_prep.specs.Preparations.{IsGreatestDistance, grain_of, AreLabelsOf, IsPrepOf}
+use Rattle.landmark_prep.specs.Preparations.{grain_of, AreLabelsOf, IsPrepOf}
 use Rattle.landmark_prep.specs.Jobs.{AreRowsOf}
 
 only_one : (s t : ℕ) → Contains (s ∷ []) t → s ≡ t
 only_one s t (zero, l, e) = e
 only_one s t (suc k, l, e) = absurd (omega arith)
-
--- what is at a distance from a node is at that distance from the nearest of that one node
-near_one : (network : Network) (s node d : ℕ) → IsLeastWeight network s node d → IsNearAt network (s ∷ []) node d
-near_one network s node d w = record {
-  source = s;
-  one_of = (0, omega arith, refl);
-  walk = w;
-  nearest = λ other c. subst (λ (n : ℕ). IsAtMostEachWalk network n node d) (only_one s other c) (λ others walk. let l = w.is_least.least others walk in let e = w.weight_is in omega arith);
-}
-
--- the first landmark is at the greatest distance from the start
-pub first_is_far : (network : Network) (start node d : ℕ) → IsFarthest network (start ∷ []) node d → IsGreatestDistance network start d
-first_is_far network start node d f = record {
-  node = node;
-  walk = subst (λ (s : ℕ). IsLeastWeight network s node d) (sym (only_one start f.at.source f.at.one_of)) f.at.walk;
-  greatest = λ other e walk. f.greatest other e (near_one network start other e walk);
-}
-
--- a label is that of the distance
-pub label_of_walk : (network : Network) (limit from to d : ℕ) (label : Option ℕ) → IsLabel network limit from to label → IsLeastWeight network from to d → label ≡ Some (min d limit)
-label_of_walk network limit from to d label l w = one_label network limit from to label (Some (min d limit)) l (record {
-  hops = w.hops;
-  walk = w.is_least.walk;
-  weight = ap (λ (n : ℕ). min n limit) (sym w.weight_is);
-  least = λ others walk. let a = w.is_least.least others walk in let b = w.weight_is in omega arith;
-})
 
 -- walks from nodes end at nodes
 near_within : (network : Network) (sources : List ℕ) (node d : ℕ) → LeadsToNodes network → ((source : ℕ) → Contains sources source → source < network.nodes) → IsNearAt network sources node d → node < network.nodes
@@ -121,34 +95,22 @@ parts_made network grain landmarks table some few fine coarse z =
       coarse = coarse;
     }
 
--- the first that was chosen is the first landmark
-pub first_chosen : (chosen : List NodeId) (far : NodeId) → slice_get chosen 0 ≡ Some far → slice_index (map (λ node. node.0) chosen) 0 ≡ far.0
-first_chosen [] far e = absurd (cc)
-first_chosen (l ∷ chosen) far e = let same : l ≡ far = cc in ap (λ (n : NodeId). n.0) same
-
--- what is made of the farthest rule's choice, the grain of its distance and the rows of its landmarks is the preparation
-pub prep_made : (network : Network) (count start : ℕ) (chosen : List NodeId) (far : NodeId) (profile grain : ℕ) (snapshot : List ℕ) (table : List PackedLabels) → SomeHopIsOpen network → IsLargestPart network start → IsChoice network start count (map (λ node. node.0) chosen) → slice_get chosen 0 ≡ Some far → ((distance : ℕ) → IsLeastWeight network start far.0 distance → grain ≡ grain_of distance) → AllZip (AreRowsOf network grain) chosen table → IsPrepOf network count (record { profile = profile; snapshot = snapshot; landmarks = map (λ node. node.0) chosen; grain = grain; labels = map (unpacked_labels grain) table })
-unfolding first_is_far
-prep_made network count start chosen far profile grain snapshot table some part choice first is rows =
-    let distance = choice.each.first_distance in
-    let greatest = first_is_far network start (slice_index (map (λ node. node.0) chosen) 0) distance choice.each.first in
-    record {
-      some = some;
-      start = start;
-      start_is = part;
-      landmarks_are = choice;
-      far = distance;
-      far_is = greatest;
-      grain_is = is distance (subst (λ (n : ℕ). IsLeastWeight network start n distance) (first_chosen chosen far first) greatest.walk);
-      labels_are = rows_are_labels network grain chosen table rows;
-    }
+-- what is made of the farthest rule's choice, the grain of the greatest distance and the rows of the landmarks is the preparation
+pub prep_made : (network : Network) (count start far : ℕ) (chosen : List NodeId) (profile grain : ℕ) (snapshot : List ℕ) (table : List PackedLabels) → SomeHopIsOpen network → IsLargestPart network start → IsChoice network start count (map (λ node. node.0) chosen) → IsGreatestDistance network start far → grain ≡ grain_of far → AllZip (AreRowsOf network grain) chosen table → IsPrepOf network count (record { profile = profile; snapshot = snapshot; landmarks = map (λ node. node.0) chosen; grain = grain; labels = map (unpacked_labels grain) table })
+prep_made network count start far chosen profile grain snapshot table some part choice greatest is rows = record {
+  some = some;
+  start = start;
+  start_is = part;
+  landmarks_are = choice;
+  far = far;
+  far_is = greatest;
+  grain_is = is;
+  labels_are = rows_are_labels network grain chosen table rows;
+}
 
 -- the landmarks are nodes
 pub chosen_within : (network : Network) (start : ℕ) (chosen : List NodeId) → LeadsToNodes network → start < network.nodes → AreFarthest network start (map (λ node. node.0) chosen) → All (λ landmark. landmark.0 < network.nodes) chosen
 chosen_within network start chosen leads begin far = all_within network.nodes chosen (landmark_within network start (map (λ node. node.0) chosen) leads begin far)
-
-pub first_within : (network : Network) (start : ℕ) (chosen : List NodeId) (far : NodeId) → LeadsToNodes network → start < network.nodes → AreFarthest network start (map (λ node. node.0) chosen) → slice_get chosen 0 ≡ Some far → far.0 < network.nodes
-first_within network start chosen far leads begin f e = subst (λ (n : ℕ). n < network.nodes) (first_chosen chosen far e) (landmark_within network start (map (λ node. node.0) chosen) leads begin f 0 f.some)
 
 -- what is said of a part, where there is one
 pub part_of : (network : Network) (part : Option NodeId) (start : NodeId) → IfSome part (λ node. IsLargestPart network node.0) → part ≡ Some start → IsLargestPart network start.0

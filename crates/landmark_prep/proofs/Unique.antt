@@ -5,11 +5,11 @@ use Rattle.std.proofs.lemmas.List.{take_all}
 use Rattle.gh_base.specs.Networks.{Network}
 use Rattle.walk_rules.specs.Distances.{in_grains, label_at}
 use Rattle.walk_rules.proofs.Single.{one_label}
-use Rattle.landmark_choice.specs.Farthest.{IsChoice}
+use Rattle.landmark_choice.specs.Farthest.{IsChoice, IsGreatestDistance}
 use Rattle.landmark_choice.specs.Parts.{IsLargestPart}
 use Rattle.landmark_choice.proofs.Fronts.{choices_fronts}
 use Rattle.landmark_prep.specs.Packing.{Labels}
-use Rattle.landmark_prep.specs.Preparations.{Preparation, nodes_of, IsGreatestDistance, grain_of, AreLabelsOf, IsPrepOf}
+use Rattle.landmark_prep.specs.Preparations.{Preparation, nodes_of, grain_of, AreLabelsOf, IsPrepOf}
 
 one_start : (network : Network) (a b : ℕ) → IsLargestPart network a → IsLargestPart network b → a ≡ b
 one_start network a b p q =

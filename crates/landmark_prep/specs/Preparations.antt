@@ -2,9 +2,8 @@
 use Rattle.std.specs.Prelude.{◌≡◌, ℕ, ◌+◌, ◌*◌, ◌/◌, ◌^◌, ◌≤◌, min, List, [], ◌∷◌, length}
 use Rattle.std.specs.List.{AllZip}
 use Rattle.gh_base.specs.Networks.{Network}
-use Rattle.walk_rules.specs.Walks.{IsLeastWeight}
 use Rattle.walk_rules.specs.Distances.{in_grains, AreLabelsFrom, AreLabelsTo, label_at}
-use Rattle.landmark_choice.specs.Farthest.{IsChoice}
+use Rattle.landmark_choice.specs.Farthest.{IsChoice, IsGreatestDistance}
 use Rattle.landmark_choice.specs.Parts.{IsLargestPart, SomeHopIsOpen}
 use Rattle.landmark_prep.specs.Packing.{Labels}
 
@@ -20,12 +19,6 @@ pub record Preparation : Type 0 where
 abbrev pub nodes_of : List Labels → ℕ
 nodes_of [] = 0
 nodes_of (labels ∷ rest) = length labels.from
-
--- the greatest distance from a node to one that it reaches
-pub record IsGreatestDistance (network : Network) (from distance : ℕ) : Type 0 where
-  pub node : ℕ
-  pub walk : IsLeastWeight network from node distance
-  pub greatest : (other d : ℕ) → IsLeastWeight network from other d → d ≤ distance
 
 -- a grain at which a distance, and twice that, fits 16 bits
 abbrev pub grain_of : ℕ → ℕ

@@ -1,6 +1,6 @@
 //! How a preparation is made.
 ghost use Rattle.std.specs.Prelude.{◌≡◌, ◌↔◌, ℕ, ◌^◌, ◌<◌, ◌≤◌, IfOk};
-ghost use Rattle.walk_rules.specs.Walks.{AreTurned, IsLeastWeight};
+ghost use Rattle.walk_rules.specs.Walks.{AreTurned};
 ghost use Rattle.landmark_choice.specs.Parts.{IsBarred};
 ghost use Rattle.landmark_prep.specs.Preparations.{grain_of, IsPrepOf};
 ghost use Rattle.landmark_prep.specs.Answers.{IfPrep, IsNoLandmark};
@@ -8,13 +8,12 @@ ghost use Rattle.landmark_prep.specs.Answers.{IfPrep, IsNoLandmark};
 use crate::preparation::{Prep, of_parts};
 use crate::spreading::spread_all;
 use gh_base::{FreshView, LimitList, NoMemory, NodeId};
-use label_spread::labels_from;
-use landmark_choice::{choose, largest_part};
+use landmark_choice::{Choice, choose, largest_part};
 use std::alloc::Global;
 use std::thread::Threads;
 
 /// The greatest distance in ms that counts for a grain.
-const FARTHEST_MS: u64 = 1 << 60;
+const FARTHEST_MS: u128 = 1 << 60;
 
 /// How many grains that distance has at least, so that twice as much fits 16 bits.
 const LEAST_GRAINS: u64 = 32767;
@@ -53,26 +52,16 @@ pub fn make_prep<R: Threads + Sync, V: FreshView + Sync + Drop, W: FreshView + S
     let Some(start) = largest_part(alloc, out, back)? else {
         return Ok(Made::NoLandmark)
     };
-    let landmarks = choose(alloc, out, start, count)?;
-    let grain = grain_for(alloc, out, start, *landmarks.get(0))?;
+    let Choice { landmarks, far_ms } = choose(alloc, out, start, count)?;
+    let grain = grain_for(far_ms);
     let labels = spread_all(rt, alloc, out, back, grain, landmarks.as_slice())?;
     Ok(Made::Prep(of_parts(profile, snapshot, landmarks, grain, labels)))
 }
 
-/// The grain for the distance from the start to the node that is farthest from it.
-fn grain_for<V: FreshView + Drop>(
-    alloc: Global,
-    out: &V,
-    start: NodeId,
-    far: NodeId,
-) -> Result<u64, NoMemory>
-    requires start { start.0 < (V.network out.now).nodes }
-    requires far { far.0 < (V.network out.now).nodes }
-    ensures is { IfOk result (λ grain. (distance : ℕ) → IsLeastWeight (V.network out.now) start.0 far.0 distance → grain ≡ grain_of distance) }
-    ensures fine { IfOk result (λ grain. 1 ≤ grain) }
-    ensures coarse { IfOk result (λ grain. grain ≤ 2 ^ 46) }
+/// The grain for a greatest distance in ms.
+fn grain_for(far_ms: u128) -> u64
+    ensures is { result ≡ grain_of far_ms }
+    ensures coarse { result ≤ 2 ^ 46 }
 {
-    let labels = labels_from(alloc, out, start)?;
-    let distance = labels.get(far.0 as usize).unwrap_or(0);
-    Ok(distance.min(FARTHEST_MS) / LEAST_GRAINS + 1)
+    far_ms.min(FARTHEST_MS) as u64 / LEAST_GRAINS + 1
 }
