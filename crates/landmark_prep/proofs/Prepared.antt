@@ -1,17 +1,14 @@
 -- What is made is the preparation.
-use Rattle.std.specs.Prelude.{slice_index, slice_get, IfSome}
+use Rattle.std.specs.Prelude.{slice_index, IfSome}
 use Rattle.std.specs.List.{AllZip}
-use Rattle.std.proofs.Common.{◌≡◌, ℕ, ◌^◌, ◌<◌, ◌≤◌, min, All, Option, Some, List, [], ◌∷◌, length, map, take, Contains, zero, suc, refl, sym, subst, ap, ◌∙◌, inl, inr, arith}
+use Rattle.std.proofs.Common.{◌≡◌, ℕ, ◌^◌, ◌<◌, ◌≤◌, All, Option, Some, List, [], ◌∷◌, length, map, take, Contains, zero, suc, refl, sym, subst, ap, ◌∙◌, inl, inr, arith}
 use Rattle.std.proofs.lemmas.List.{length-map}
 use Rattle.std.proofs.lemmas.List.Elements.{All-nil, All-cons, Contains-append_cases}
 use Rattle.std.proofs.Math.Seq.{take-suc}
 use Rattle.gh_base.specs.declared.edges.NodeId.{NodeId}
 use Rattle.gh_base.specs.Networks.{Network, LeadsToNodes}
-use Rattle.walk_rules.specs.Walks.{IsLeastWeight, IsAtMostEachWalk}
-use Rattle.walk_rules.specs.Distances.{IsLabel}
 use Rattle.walk_rules.proofs.Walking.{walk_within}
-use Rattle.walk_rules.proofs.Single.{one_label}
-use Rattle.landmark_choice.specs.Farthest.{IsNearAt, IsFarthest, AreFarthest, IsChoice, IsGreatestDistance}
+use Rattle.landmark_choice.specs.Farthest.{IsNearAt, AreFarthest, IsChoice, IsGreatestDistance}
 use Rattle.landmark_choice.specs.Parts.{IsLargestPart, SomeHopIsOpen, IsBarred}
 use Rattle.landmark_prep.specs.declared.labels.PackedLabels.{PackedLabels}
 use Rattle.landmark_prep.specs.Packing.{unpacked, unpacked_labels, packed_nodes, AreLong, AreParts}

@@ -1,5 +1,5 @@
 -- What a preparation is: landmarks of a network, and the distances from them and to them in whole grains (Goldberg and Harrelson 2005, section 3; GraphHopper documentation, "Landmarks").
-use Rattle.std.specs.Prelude.{◌≡◌, ℕ, ◌+◌, ◌*◌, ◌/◌, ◌^◌, ◌≤◌, min, List, [], ◌∷◌, length}
+use Rattle.std.specs.Prelude.{◌≡◌, ℕ, ◌+◌, ◌*◌, ◌/◌, ◌^◌, min, List, [], ◌∷◌, length}
 use Rattle.std.specs.List.{AllZip}
 use Rattle.gh_base.specs.Networks.{Network}
 use Rattle.walk_rules.specs.Distances.{in_grains, AreLabelsFrom, AreLabelsTo, label_at}
