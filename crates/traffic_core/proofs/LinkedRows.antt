@@ -1,17 +1,20 @@
 -- Rows that are linked by heads: the way along one head, and a row more.
-use Rattle.std.proofs.Common.{◌≡◌, ◌≢◌, ℕ, ◌+◌, ◌%◌, ◌<◌, ◌≤◌, List, [], ◌∷◌, ◌++◌, length, Option, Some, None, refl, ap, ◌∙◌, sym, arith, inl, inr, subst}
+use Rattle.std.proofs.Common.{◌≡◌, ◌≢◌, ℕ, ◌+◌, ◌-◌, ◌<◌, ◌≤◌, List, [], ◌∷◌, ◌++◌, length, Option, Some, None, refl, ap, ◌∙◌, sym, arith, inl, inr, subst}
 use Rattle.std.specs.Prelude.{slice_set, slice_index_or}
 use Rattle.std.proofs.lemmas.Bool.{cases_lt, cases_eq}
 use Rattle.std.proofs.lemmas.List.{length-set, length_push, get_or-set_same, get_or-set_other, get_or_append_left, get_or_push}
-use Rattle.std.proofs.Math.Nat.{mod-lt}
+use Rattle.std.proofs.lemmas.Nat.{and_le_r}
 use Rattle.traffic_core.specs.declared.rows.Row.{Row}
-use Rattle.traffic_core.specs.Rows.{row_at, HasNoRow, IsLastBelow, AreLinked}
+use Rattle.traffic_core.specs.Rows.{row_at, head_of, HasNoRow, IsLastBelow, AreLinked}
+
+pub head_within : (heads place : ℕ) → 0 < heads → head_of heads place < heads
+head_within heads place some = let low = and_le_r place (heads - 1) in omega arith
 
 -- a search along a head: no row from the bound on is of the place, and the next is the last below the bound
 pub record IsSought (heads : ℕ) (rows : List Row) (place : ℕ) (next : Option ℕ) : Type 0 where
   pub bound : ℕ
   pub within : bound ≤ length rows
-  pub last : IsLastBelow heads rows (place % heads) bound next
+  pub last : IsLastBelow heads rows (head_of heads place) bound next
   pub passed : (number : ℕ) → bound ≤ number → number < length rows → (row_at rows number).place ≢ place
 
 -- rows that agree below a number have the same last row below it
@@ -21,7 +24,7 @@ last_along heads rows more head below None same is = λ other lt. rw (same other
 last_along heads rows more head below (Some number) same is = (is.0, rw (same number is.0) is.1, λ other from to. rw (same other to) (is.2 other from to))
 
 -- a row of another head isn't the last of this one
-pub last_past : (heads : ℕ) (rows : List Row) (head below : ℕ) (last : Option ℕ) → (row_at rows below).place % heads ≢ head →
+pub last_past : (heads : ℕ) (rows : List Row) (head below : ℕ) (last : Option ℕ) → head_of heads (row_at rows below).place ≢ head →
     IsLastBelow heads rows head below last → IsLastBelow heads rows head (below + 1) last
 last_past heads rows head below None apart is = λ other lt. elim (cases_eq other below) [ inl same ↦ rw same apart | inr unlike ↦ is other (omega arith) ]
 last_past heads rows head below (Some number) apart is =
@@ -34,7 +37,7 @@ linked_by heads rows more len places nexts linked = record {
   some = linked.some;
   latest = λ head lt. rw len (last_along (length heads) rows more head (length rows) (slice_index_or heads head None) (λ q _. places q) (linked.latest head lt));
   links = λ q lt. rw (places q, nexts q)
-      (last_along (length heads) rows more ((row_at rows q).place % length heads) q (row_at rows q).next (λ r _. places r) (linked.links q (omega arith)));
+      (last_along (length heads) rows more (head_of (length heads) (row_at rows q).place) q (row_at rows q).next (λ r _. places r) (linked.links q (omega arith)));
   once = λ first second lt below e. linked.once first second lt (omega arith) (sym (places first) ∙ (e ∙ places second));
 }
 
@@ -55,16 +58,16 @@ linked_changed heads rows number row below place next linked =
     linked_by heads rows (slice_set rows number row) (length-set rows number row) places nexts linked
 
 -- a row of a new place is linked in front of its head's
-pub linked_pushed : (heads : List (Option ℕ)) (rows : List Row) (row : Row) (head number : ℕ) → head ≡ row.place % length heads → number ≡ length rows →
+pub linked_pushed : (heads : List (Option ℕ)) (rows : List Row) (row : Row) (head number : ℕ) → head ≡ head_of (length heads) row.place → number ≡ length rows →
     HasNoRow rows row.place → row.next ≡ slice_index_or heads head None → AreLinked heads rows → AreLinked (slice_set heads head (Some number)) (rows ++ row ∷ [])
 linked_pushed heads rows row head number head_is number_is fresh next linked =
     let heads_len : length (slice_set heads head (Some number)) ≡ length heads = length-set heads head (Some number) in
     let rows_len : length (rows ++ row ∷ []) ≡ length rows + 1 = length_push rows row in
-    let inside : head < length heads = rw head_is (mod-lt row.place linked.some) in
+    let inside : head < length heads = rw head_is (head_within (length heads) row.place linked.some) in
     let same : (q : ℕ) → q < length rows → row_at (rows ++ row ∷ []) q ≡ row_at rows q = λ q lt. get_or_append_left rows (row ∷ []) _ q lt in
     let places : (q : ℕ) → q < length rows → (row_at (rows ++ row ∷ []) q).place ≡ (row_at rows q).place = λ q lt. ap (λ (r : Row). r.place) (same q lt) in
     let top : row_at (rows ++ row ∷ []) (length rows) ≡ row = get_or_push rows row _ (length rows) refl in
-    let top_head : (row_at (rows ++ row ∷ []) (length rows)).place % length heads ≡ head = ap (λ (r : Row). r.place % length heads) top ∙ sym head_is in
+    let top_head : head_of (length heads) (row_at (rows ++ row ∷ []) (length rows)).place ≡ head = ap (λ (r : Row). head_of (length heads) r.place) top ∙ sym head_is in
     let latest : (h : ℕ) → h < length heads → IsLastBelow (length heads) (rows ++ row ∷ []) h (length rows + 1) (slice_index_or (slice_set heads head (Some number)) h None) = λ h lt.
     elim (cases_eq h head) [
       | inl is ↦ rw (is, get_or-set_same heads head (Some number) None inside, number_is) (omega arith, top_head, λ other from to. absurd (omega arith))
@@ -79,7 +82,7 @@ linked_pushed heads rows row head number head_is number_is fresh next linked =
       some = rw heads_len linked.some;
       latest = λ h lt. rw (heads_len, rows_len) (latest h (omega arith));
       links = λ q lt. elim (cases_lt q (length rows)) [
-        | inl under ↦ rw (heads_len, same q under) (last_along (length heads) rows (rows ++ row ∷ []) ((row_at rows q).place % length heads) q (row_at rows q).next
+        | inl under ↦ rw (heads_len, same q under) (last_along (length heads) rows (rows ++ row ∷ []) (head_of (length heads) (row_at rows q).place) q (row_at rows q).next
             (λ r below. places r (omega arith)) (linked.links q under))
         | inr over ↦ let at : q ≡ length rows = omega arith in rw (heads_len, at, top, ← head_is) before
       ];

@@ -1,7 +1,7 @@
 //! Limits that were changed, each in a row. Rows are found from a table of heads, and those of one head are linked,
 //! the latest first.
 ghost use Rattle.std.specs.Prelude.{◌≡◌, ℕ, ◌+◌, ◌<◌, ◌≤◌, List, [], length, IfOk, MatchOption, unwrap_or, slice_set, slice_index};
-ghost use Rattle.traffic_core.specs.Rows.{with_rows, row_at, HasNoRow};
+ghost use Rattle.traffic_core.specs.Rows.{with_rows, row_at, head_of, HasNoRow};
 
 use gh_base::NoMemory;
 use std::alloc::Global;
@@ -41,7 +41,7 @@ impl ChangedLimits {
         ensures room { IfOk result (λ changed. changed.room ≡ room) }
     {
         let rows = Vec::with_capacity(alloc, room as usize)?;
-        let heads = vec![in alloc; None; 2 * room as usize + 1]?;
+        let heads = vec![in alloc; None; heads_for(room)]?;
         Ok(ChangedLimits { heads, rows, room })
     }
 
@@ -77,7 +77,7 @@ impl ChangedLimits {
         ensures rows { length self.new.rows ≡ length self.old.rows + 1 }
         ensures room { self.new.room ≡ self.old.room }
     {
-        let head = place % self.heads.len();
+        let head = head_of_place(self.heads.len(), place);
         let number = self.rows.len() as u32;
         let next = self.heads[head];
         self.rows.push_reserved(Row { place, speed, next });
@@ -88,7 +88,7 @@ impl ChangedLimits {
     fn find(&self, place: usize) -> Option<u32>
         ensures { MatchOption result (HasNoRow self.now.rows place) (λ number. (number < length self.now.rows) × ((row_at self.now.rows number).place ≡ place)) }
     {
-        let mut next = self.heads[place % self.heads.len()];
+        let mut next = self.heads[head_of_place(self.heads.len(), place)];
         while let Some(number) = next {
             let row = self.rows[number as usize];
             if row.place == place {
@@ -98,4 +98,21 @@ impl ChangedLimits {
         }
         None
     }
+}
+
+/// How many heads there are for so many rows: about twice as many, and a power of two.
+fn heads_for(room: u32) -> usize
+    ensures { 0 < result }
+{
+    let most = room as usize;
+    (most + most / 2 + 1).next_power_of_two()
+}
+
+/// The head of a place, of so many.
+fn head_of_place(heads: usize, place: usize) -> usize
+    requires { 0 < heads }
+    ensures head { result ≡ head_of heads place }
+    ensures within { result < heads }
+{
+    place & (heads - 1)
 }

@@ -333,3 +333,6 @@ impl<'g> Limits for RoadState<'g> {
         RoadState::limit(self, edge)
     }
 }
+
+#[cfg(test)]
+mod tests;

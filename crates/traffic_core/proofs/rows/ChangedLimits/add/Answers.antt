@@ -1,6 +1,6 @@
-use Rattle.std.proofs.Common.{ℕ, ◌≡◌, ◌<◌, ◌%◌, length, ◌∙◌, ap, arith, None}
+use Rattle.std.proofs.Common.{ℕ, ◌≡◌, ◌<◌, length, ◌∙◌, arith, None}
 use Rattle.std.proofs.lemmas.List.{get_or_read}
-use Rattle.std.proofs.Math.Nat.{mod-lt}
+use Rattle.traffic_core.specs.Rows.{head_of}
 use Rattle.traffic_core.proofs.WithRows.{with_rows-push}
 use Rattle.traffic_core.proofs.LinkedRows.{linked_pushed}
 use Rattle.traffic_core.proofs.rows.ChangedLimits.add.Goals as goal
@@ -11,11 +11,12 @@ returns-clause-limits c limits =
 
 pub invariant_of-self : goal.invariant_of-self
 invariant_of-self c =
-    let head : c.args.place % c.len.result ≡ c.args.place % length c.self.inside.heads.items = ap (λ (n : ℕ). c.args.place % n) (c.len.ensures ∙ c.self.inside.heads.ok.0) in
-    let inside : c.args.place % c.len.result < length c.self.inside.heads.items = rw head (mod-lt c.args.place c.self.invariant.0.some) in
+    let len : c.len.result ≡ length c.self.inside.heads.items = c.len.ensures ∙ c.self.inside.heads.ok.0 in
+    let head : c.head_of_place-head.result ≡ head_of (length c.self.inside.heads.items) c.args.place = rw len at c.head_of_place-head.ensures.head in
+    let inside : c.head_of_place-head.result < length c.self.inside.heads.items = rw len at c.head_of_place-head.ensures.within in
     rw c.push_reserved.ensures.items (
-      linked_pushed c.self.inside.heads.items c.self.inside.rows.items _ (c.args.place % c.len.result) c.len-number.result head (c.len-number.ensures ∙ c.self.inside.rows.ok.0)
+      linked_pushed c.self.inside.heads.items c.self.inside.rows.items _ c.head_of_place-head.result c.len-number.result head (c.len-number.ensures ∙ c.self.inside.rows.ok.0)
           (rw (← c.self.view_is) at c.requires.fresh)
-          (get_or_read c.self.inside.heads.items (c.args.place % c.len.result) c.index-next.result.now inside c.index-next.ensures None) c.self.invariant.0,
+          (get_or_read c.self.inside.heads.items c.head_of_place-head.result c.index-next.result.now inside c.index-next.ensures None) c.self.invariant.0,
       omega (arith, c.self.invariant.1, c.push_reserved.ensures.capacity),
     )
