@@ -43,10 +43,12 @@ NoneComesBack = (graph : Graph) (h : List Entry) (entry : Entry) (profile : ℕ)
 
 -- a preparation that isn't published over stays in its slot where it covers the limits after the entry
 abbrev pub StaysInSlot : Type 0
-StaysInSlot = (graph : Graph) (h : List Entry) (entry : Entry) (profile place : ℕ) (prep : Preparation) → LeavesSlot graph h entry profile →
-    IsInSlot graph h profile place prep → Covers graph (h ++ entry ∷ []) prep → IsInSlot graph (h ++ entry ∷ []) profile place prep
+StaysInSlot = (graph : Graph) (h : List Entry) (entry : Entry) (profile place : ℕ) (prep : Preparation) →
+    LeavesSlot graph h entry profile → IsInSlot graph h profile place prep → Covers graph (h ++ entry ∷ []) prep →
+    IsInSlot graph (h ++ entry ∷ []) profile place prep
 
 -- and it leaves the slot empty at exactly the entry after which one of its snapshot limits is below the present limit
 abbrev pub LeavesWhenAbove : Type 0
-LeavesWhenAbove = (graph : Graph) (h : List Entry) (entry : Entry) (profile place : ℕ) (prep : Preparation) → LeavesSlot graph h entry profile →
-    IsInSlot graph h profile place prep → IsSlot graph (h ++ entry ∷ []) profile None ↔ (¬ Covers graph (h ++ entry ∷ []) prep)
+LeavesWhenAbove = (graph : Graph) (h : List Entry) (entry : Entry) (profile place : ℕ) (prep : Preparation) →
+    LeavesSlot graph h entry profile → IsInSlot graph h profile place prep →
+    IsSlot graph (h ++ entry ∷ []) profile None ↔ (¬ Covers graph (h ++ entry ∷ []) prep)

@@ -1,7 +1,7 @@
 //! Limits that were changed, each in a row. Rows are found from a table of heads, and those of one head are linked,
 //! the latest first.
-ghost use Rattle.std.specs.Prelude.{◌≡◌, ℕ, ◌+◌, ◌<◌, ◌≤◌, List, [], length, IfOk, MatchOption, unwrap_or, slice_set, slice_index};
-ghost use Rattle.traffic_core.specs.Rows.{with_rows, row_at, head_of, HasNoRow};
+ghost use Rattle.std.specs.Prelude.{◌≡◌, ◌+◌, ◌<◌, ◌≤◌, [], length, IfOk, MatchOption};
+ghost use Rattle.traffic_core.specs.Rows.{head_of, HasNoRow, IsRowOf, IsChangedLimit, SetsLimit};
 
 use gh_base::NoMemory;
 use std::alloc::Global;
@@ -47,7 +47,7 @@ impl ChangedLimits {
 
     /// The changed limit of a place, or none where it wasn't changed.
     pub(crate) fn get(&self, place: usize) -> Option<u32>
-        ensures { (limits : List ℕ) → place < length limits → slice_index (with_rows limits self.now.rows) place ≡ unwrap_or result (slice_index limits place) }
+        ensures { IsChangedLimit self.now.rows place result }
     {
         let number = self.find(place)?;
         Some(self.rows[number as usize].speed)
@@ -56,7 +56,7 @@ impl ChangedLimits {
     /// Sets the limit of a place. It takes a row where the place has none.
     pub(crate) fn set(&mut self, place: usize, speed: u32)
         requires { length self.old.rows < self.old.room }
-        ensures limits { (limits : List ℕ) → with_rows limits self.new.rows ≡ slice_set (with_rows limits self.old.rows) place speed }
+        ensures limits { SetsLimit self.old.rows self.new.rows place speed }
         ensures rows { length self.new.rows ≤ length self.old.rows + 1 }
         ensures room { self.new.room ≡ self.old.room }
     {
@@ -73,7 +73,7 @@ impl ChangedLimits {
     fn add(&mut self, place: usize, speed: u32)
         requires room { length self.old.rows < self.old.room }
         requires fresh { HasNoRow self.old.rows place }
-        ensures limits { (limits : List ℕ) → with_rows limits self.new.rows ≡ slice_set (with_rows limits self.old.rows) place speed }
+        ensures limits { SetsLimit self.old.rows self.new.rows place speed }
         ensures rows { length self.new.rows ≡ length self.old.rows + 1 }
         ensures room { self.new.room ≡ self.old.room }
     {
@@ -86,7 +86,7 @@ impl ChangedLimits {
 
     /// The number of the row of a place.
     fn find(&self, place: usize) -> Option<u32>
-        ensures { MatchOption result (HasNoRow self.now.rows place) (λ number. (number < length self.now.rows) × ((row_at self.now.rows number).place ≡ place)) }
+        ensures { MatchOption result (HasNoRow self.now.rows place) (IsRowOf self.now.rows place) }
     {
         let mut next = self.heads[head_of_place(self.heads.len(), place)];
         while let Some(number) = next {

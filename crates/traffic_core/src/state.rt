@@ -2,11 +2,10 @@
 //! queries of each profile.
 ghost use Rattle.std.specs.Prelude.{◌≡◌, ℕ, ◌+◌, ◌*◌, ◌^◌, ◌<◌, ◌≤◌, List, [], ◌∷◌, ◌++◌, length, None, IfOk, IfSome, MatchOption, IsTrue, ◌↔◌, slice_set, slice_index_or};
 ghost use Rattle.traffic_core.specs.declared.entry.Entry.{Entry};
-ghost use Rattle.weighting.specs.SlowRoads.{AreNowhereAbove};
-ghost use Rattle.traffic_core.specs.History.{index_of, limit_in, IsFirstBelow, IsGuide, IsSlot};
+ghost use Rattle.traffic_core.specs.History.{index_of, limit_in, IsGuide, IsSlot};
 ghost use Rattle.traffic_core.specs.Seen.{seen};
-ghost use Rattle.traffic_core.specs.Standing.{State, Stands, CanTake, IsOnLand, AreOnLand, AreSlotsAfter};
-ghost use Rattle.traffic_core.specs.Steps.{Changes, HasTaken, IsCounted};
+ghost use Rattle.traffic_core.specs.Standing.{State, Stands, CanTake, IsOnLand, AreOnLand, AreSlotsAfter, IsCoveredBy, IsFirstOver};
+ghost use Rattle.traffic_core.specs.Steps.{IsCounted, IsSlotAfterChange, AreSlotsAfterChange, HasTakenChange, HasTakenPublication};
 
 use crate::edge_index::{edge_of_index, index_of_edge, listed_limit};
 use crate::entries::Entries;
@@ -19,8 +18,9 @@ use landmark_prep::Prep;
 use std::alloc::Global;
 use std::marker::Model;
 
-/// The roads after a list of entries. Only limits that entries changed are kept. Contracts see the roads, each limit
-/// by index, the place of the entry in each profile's slot, how many entries there were, and for how many there is room.
+/// The roads after a list of entries. Only limits that entries changed are kept. Contracts see the roads, each
+/// limit by index, the place of the entry in each profile's slot, how many entries there were, and for how many
+/// there is room.
 #[derive(Drop)]
 pub struct RoadState<'g> {
     ground: &'g Ground,
@@ -31,8 +31,8 @@ pub struct RoadState<'g> {
 }
 
 impl<'g> Model for RoadState<'g> {
-    ghost use Rattle.std.specs.Prelude.{◌≡◌, ◌≤◌, length};
     ghost use Rattle.traffic_core.specs.Rows.{opening_limits, with_rows};
+    ghost use Rattle.traffic_core.specs.Steps.{IsKept};
     ghost use Rattle.traffic_core.specs.Standing.{State};
     ghost use Rattle.model_eval.specs.contracts.conditions.Test as e;
     ghost use Rattle.std.specs.Coded.{codes};
@@ -49,8 +49,7 @@ impl<'g> Model for RoadState<'g> {
       room = state.room;
     } };
 
-    ghost invariant = { λ state.
-        (length state.slots.items ≡ length state.ground.now.profiles) × (length state.changed.rows ≤ state.len) × (state.changed.room ≡ state.room) };
+    ghost invariant = { λ state. IsKept state.ground.now state.changed state.slots.items state.len state.room };
 }
 
 impl<'g> RoadState<'g> {
@@ -134,7 +133,7 @@ impl<'g> RoadState<'g> {
     /// where the snapshot covers the present limits.
     pub fn first_below(&self, snapshot: &LimitList) -> Option<DirEdge>
         requires { length snapshot.now ≡ 2 * length self.now.land.graph.edges }
-        ensures { MatchOption result (AreNowhereAbove self.now.land.graph (limit_in self.now.limits) (limit_in snapshot.now)) (IsFirstBelow self.now.land.graph (limit_in self.now.limits) snapshot.now) }
+        ensures { MatchOption result (IsCoveredBy self.now snapshot.now) (IsFirstOver self.now snapshot.now) }
     {
         for place in 0..self.limit_count() {
             let edge = edge_of_index(place);
@@ -160,7 +159,7 @@ impl<'g> RoadState<'g> {
         requires profile { profile < length self.now.land.profiles }
         requires before { Stands self.now (E.entries before.now) }
         ensures guide { IsGuide self.now.land.graph (E.entries before.now) profile (seen result) }
-        ensures covers { IfSome result (λ prep. AreNowhereAbove self.now.land.graph (limit_in self.now.limits) (limit_in prep.now.snapshot)) }
+        ensures covers { IfSome result (λ prep. IsCoveredBy self.now prep.now.snapshot) }
         ensures of_profile { IfSome result (λ prep. prep.now.profile ≡ profile) }
         ensures on_land { IfSome result (λ prep. IsOnLand self.now.land (What.Publish prep.now)) }
     {
@@ -218,7 +217,7 @@ impl<'g> RoadState<'g> {
         requires by { by.edge.0 < length self.old.land.graph.edges }
         requires before { Stands self.old (E.entries before.now) }
         ensures same { IsCounted self.old self.new }
-        ensures taken { (entry : Entry) → Changes entry.what by speed → HasTaken self.new (E.entries before.now ++ entry ∷ []) }
+        ensures taken { HasTakenChange self.new (E.entries before.now) by speed }
     {
         self.set_limit(by, speed);
         self.test_slots(by, speed, before);
@@ -260,7 +259,7 @@ impl<'g> RoadState<'g> {
         requires on_land { AreOnLand self.old.land (E.entries before.now) }
         requires before { AreSlotsAfter self.old.land (E.entries before.now) self.old.slots }
         ensures same { self.new ≡ record self.old { slots = self.new.slots } }
-        ensures slots { (entry : Entry) → Changes entry.what by speed → AreSlotsAfter self.new.land (E.entries before.now ++ entry ∷ []) self.new.slots }
+        ensures slots { AreSlotsAfterChange self.new.land (E.entries before.now) by speed self.new.slots }
     {
         for profile in 0..self.ground.profiles().len() {
             let kept = self.kept_slot(profile, by, speed, before);
@@ -281,7 +280,7 @@ impl<'g> RoadState<'g> {
         requires by { by.edge.0 < length self.now.land.graph.edges }
         requires on_land { AreOnLand self.now.land (E.entries before.now) }
         requires before { IsSlot self.now.land.graph (E.entries before.now) profile (slice_index_or self.now.slots profile None) }
-        ensures { (entry : Entry) → Changes entry.what by speed → IsSlot self.now.land.graph (E.entries before.now ++ entry ∷ []) profile result }
+        ensures { IsSlotAfterChange self.now.land.graph (E.entries before.now) by speed profile result }
     {
         let place = self.slot_at(profile)?;
         match &before.entry(place).what {
@@ -297,7 +296,7 @@ impl<'g> RoadState<'g> {
         requires room { self.old.len < self.old.room }
         requires on_land { IsOnLand self.old.land (What.Publish prep.now) }
         ensures same { IsCounted self.old self.new }
-        ensures taken { (h : List Entry) (entry : Entry) → entry.what ≡ What.Publish prep.now → Stands self.old h → HasTaken self.new (h ++ entry ∷ []) }
+        ensures taken { HasTakenPublication self.old self.new prep.now }
     {
         self.take_slot(prep);
         self.count();
@@ -308,7 +307,7 @@ impl<'g> RoadState<'g> {
         requires room { self.old.len < self.old.room }
         requires on_land { IsOnLand self.old.land (What.Publish prep.now) }
         ensures same { self.new ≡ record self.old { slots = self.new.slots } }
-        ensures taken { (h : List Entry) (entry : Entry) → entry.what ≡ What.Publish prep.now → Stands self.old h → HasTaken self.new (h ++ entry ∷ []) }
+        ensures taken { HasTakenPublication self.old self.new prep.now }
     {
         if self.is_covered(prep) {
             self.set_slot(prep.profile() as usize, Some(self.len + 1));
@@ -318,7 +317,7 @@ impl<'g> RoadState<'g> {
     /// Whether no snapshot limit is below the present one.
     fn is_covered(&self, prep: &Prep) -> bool
         requires { length prep.now.snapshot ≡ 2 * length self.now.land.graph.edges }
-        ensures { IsTrue result ↔ AreNowhereAbove self.now.land.graph (limit_in self.now.limits) (limit_in prep.now.snapshot) }
+        ensures { IsTrue result ↔ IsCoveredBy self.now prep.now.snapshot }
     {
         self.first_below(prep.snapshot()).is_none()
     }
