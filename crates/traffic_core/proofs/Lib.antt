@@ -4,3 +4,9 @@ mod Index
 mod Usables
 mod Apart
 mod Once
+mod LimitIndex
+mod LimitsAfter
+mod SlotsAfter
+mod StandsAfter
+mod WithRows
+mod LinkedRows

@@ -4,6 +4,10 @@ pub mod Places
 pub mod Trips
 pub mod History
 pub mod Standing
+pub mod Seen
+pub mod Steps
+pub mod Rows
+pub mod HistoryLaws
 pub mod Truth
 pub mod Grounds
 pub mod Answers

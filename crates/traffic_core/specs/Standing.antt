@@ -1,11 +1,13 @@
 -- What a state of the roads holds, and for which histories it stands.
 use Rattle.std.specs.Prelude.{◌≡◌, ℕ, ◌*◌, ◌<◌, List, length, All, Option, None, slice_index_or}
+use Rattle.gh_base.specs.declared.edges.DirEdge.{DirEdge}
+use Rattle.weighting.specs.SlowRoads.{AreNowhereAbove}
 use Rattle.traffic_core.specs.declared.entry.Entry.{Entry}
 use Rattle.traffic_core.specs.declared.entry.What.{What}
 use Rattle.traffic_core.specs.declared.entry.What.TheVariants.{Lower, Restore, Publish}
 use Rattle.landmark_prep.specs.Preparations.{nodes_of}
 use Rattle.traffic_core.specs.Lands.{Land}
-use Rattle.traffic_core.specs.History.{AreLimitsAfter, IsSlot}
+use Rattle.traffic_core.specs.History.{limit_in, AreLimitsAfter, IsFirstBelow, IsSlot}
 
 -- the roads, each limit by index, the place in the slot of each profile, how many entries it stands for, and for how many there is room
 pub record State : Type 0 where
@@ -41,3 +43,11 @@ pub record Stands (state : State) (h : List Entry) : Type 0 where
 pub record CanTake (state : State) (entry : Entry) : Type 0 where
   pub room : state.len < state.room
   pub on_land : IsOnLand state.land entry.what
+
+-- a snapshot covers the limits that the state holds
+abbrev pub IsCoveredBy : State → List ℕ → Type 0
+IsCoveredBy state snapshot = AreNowhereAbove state.land.graph (limit_in state.limits) (limit_in snapshot)
+
+-- the first directed edge, forward before reverse, at which it doesn't
+abbrev pub IsFirstOver : State → List ℕ → DirEdge → Type 0
+IsFirstOver state snapshot by = IsFirstBelow state.land.graph (limit_in state.limits) snapshot by
