@@ -4,3 +4,4 @@ mod Index
 mod Usables
 mod Apart
 mod Once
+mod Guided

@@ -4,6 +4,7 @@ pub mod Places
 pub mod Trips
 pub mod History
 pub mod Standing
+pub mod Seen
 pub mod Truth
 pub mod Grounds
 pub mod Answers

@@ -9,6 +9,7 @@
 
 mod entry;
 mod ground;
+mod guiding;
 mod laws;
 mod lengths;
 mod pieces;

@@ -2,7 +2,7 @@ use Rattle.std.proofs.Common.{length, ◌∙◌, ap}
 use Rattle.traffic_core.specs.Trips.{Trip, trip_by, trip_network, mm_between}
 use Rattle.traffic_core.proofs.Among.{trip_is, right_trip}
 use Rattle.traffic_core.proofs.Ends.{walk_in_over, start_is, target_is}
-use Rattle.traffic_core.proofs.routing.answer_between.Goals as goal
+use Rattle.traffic_core.proofs.routing.answer_by.Goals as goal
 
 pub answer_over-requires-clause-over : goal.answer_over-requires-clause-over
 answer_over-requires-clause-over g c = λ hops w.
@@ -21,5 +21,5 @@ returns g c =
     right_trip _ trip same _ c.start_node.result.0 c.target_node.result.0 c.new-view.ensures.network
     (start_is rule limits graph c.args.from c.args.to c.start_node.result.0 c.node_count-towers.result c.node_count-towers.ensures c.start_node.ensures)
     (target_is rule limits graph c.args.from c.args.to c.target_node.result.0 c.node_count-towers.result c.node_count-towers.ensures c.target_node.ensures)
-    c.new-view.ensures.walks
+    c.new-view.ensures.walks (g.P.Potential.bound c.args.potential.now)
     (mm_between graph c.args.from c.args.to) (length graph.places) c.args.labels c.answer_over.result c.answer_over.ensures
