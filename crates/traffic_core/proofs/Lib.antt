@@ -5,3 +5,9 @@ mod Usables
 mod Apart
 mod Once
 mod Guided
+mod LimitIndex
+mod LimitsAfter
+mod SlotsAfter
+mod StandsAfter
+mod WithRows
+mod LinkedRows

@@ -5,6 +5,9 @@ pub mod Trips
 pub mod History
 pub mod Standing
 pub mod Seen
+pub mod Steps
+pub mod Rows
+pub mod HistoryLaws
 pub mod Truth
 pub mod Grounds
 pub mod Answers

@@ -1,5 +1,5 @@
 //! Changes of the roads, each by a command of an actor.
-ghost use Rattle.std.specs.Prelude.{◌≡◌, IfOk};
+ghost use Rattle.std.specs.Prelude.{◌≡◌, ◌↔◌, IsTrue, IfOk};
 
 use gh_base::{DirEdge, NoMemory};
 use landmark_prep::Prep;
@@ -45,6 +45,13 @@ impl Shared {
     {
         &self.prep
     }
+
+    /// Whether another preparation is the same.
+    pub fn is_same(&self, other: &Shared) -> bool
+        ensures { IsTrue result ↔ (self.now ≡ other.now) }
+    {
+        self.prep().is_same(other.prep())
+    }
 }
 
 /// A change: by which command of which actor, and what.
@@ -64,4 +71,38 @@ pub enum What {
     Restore { edge: DirEdge, speed: u32 },
     /// A preparation for all queries of its profile.
     Publish { prep: Shared },
+}
+
+impl Entry {
+    /// Whether another change is the same, by the same command of the same actor. Preparations are compared last.
+    pub fn is_same(&self, other: &Entry) -> bool
+        ensures { IsTrue result ↔ (self.now ≡ other.now) }
+    {
+        self.actor == other.actor && self.number == other.number && self.what.is_same(&other.what)
+    }
+}
+
+impl What {
+    fn is_same(&self, other: &What) -> bool
+        ensures { IsTrue result ↔ (self.now ≡ other.now) }
+    {
+        match (self, other) {
+            (
+                What::Lower { edge, speed },
+                What::Lower {
+                    edge: by,
+                    speed: to,
+                },
+            ) => edge == by && speed == to,
+            (
+                What::Restore { edge, speed },
+                What::Restore {
+                    edge: by,
+                    speed: to,
+                },
+            ) => edge == by && speed == to,
+            (What::Publish { prep }, What::Publish { prep: own }) => prep.is_same(own),
+            _ => false,
+        }
+    }
 }

@@ -7,24 +7,32 @@
 //! on `alt_search` for least walks and on `label_certificate` for labels.
 #![tactic(auto)]
 
+mod edge_index;
+mod entries;
 mod entry;
 mod ground;
 mod guiding;
+mod history_laws;
 mod laws;
 mod lengths;
 mod pieces;
 mod query;
 mod routing;
+mod rows;
 mod spot;
+mod state;
 #[cfg(test)]
 mod tests;
 mod towers;
 mod usable;
 
+pub use entries::{Entries, EntryList};
 pub use entry::{Entry, Shared, What};
 pub use gh_base::{Place, RouteAnswer};
 pub use ground::Ground;
+pub use history_laws::{limits_follow_entries, slots_follow_limits};
 pub use laws::{answers_agree, lengths_are_those_of_pieces};
 pub use query::RouteQuery;
 pub use routing::route;
 pub use spot::Spot;
+pub use state::RoadState;

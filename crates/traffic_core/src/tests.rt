@@ -17,7 +17,7 @@ use std::process::Abort;
 use weighting::{Profile, Profiles};
 
 /// Three towers in a row, 1111949 mm apart, on roads where cars go 60 km/h.
-const ROW: &str =
+pub(crate) const ROW: &str =
     "n1 y0 x0\nn2 y0 x0.01\nn3 y0 x0.02\nw10 Thighway=secondary Nn1,n2\nw11 Thighway=secondary Nn2,n3\n";
 
 /// One such road, one way.
@@ -111,7 +111,7 @@ fn priority_model(alloc: Global, millionths: u32) -> Result<CustomModel, NoMemor
 }
 
 /// The ground of a plain map, with one profile for a vehicle.
-fn ground_of(alloc: Global, map: &str, vehicle: Vehicle) -> Option<Ground>
+pub(crate) fn ground_of(alloc: Global, map: &str, vehicle: Vehicle) -> Option<Ground>
     ensures { IfSome result (λ made. length made.profiles ≡ 1) }
 {
     let mut source = SureSource::new(map.as_bytes(), 4096);
