@@ -31,7 +31,7 @@ module _ (P Q : List Hop → Type 0) (same : (hops : List Hop) → P hops ↔ Q 
   pub among_same : (plan : Plan) (mm_of : List Hop → ℕ) (towers : ℕ) (labels : Bool) (answer : RouteAnswer) → IsRightAmong P plan mm_of towers labels answer → IsRightAmong Q plan mm_of towers labels answer
   among_same plan mm_of towers labels (NoNode id) h = h
   among_same plan mm_of towers labels (NoSnap point) h = h
-  among_same plan mm_of towers labels (NoRoute settled) h = (λ hops q. h.0 hops ((same hops).1 q), h.1)
+  among_same plan mm_of towers labels (NoRoute settled) h = (λ hops q. h.0 hops ((same hops).1 q), h.1, h.2)
   among_same plan mm_of towers labels (WeightOverflow weight) h = (least_of_same weight h.0, h.1)
   among_same plan mm_of towers labels (Walk weight mm settled hops) h = (
     h.0,
@@ -42,6 +42,7 @@ module _ (P Q : List Hop → Type 0) (same : (hops : List Hop) → P hops ↔ Q 
       empty = h.1.empty;
       within = h.1.within;
       mm_is = h.1.mm_is;
+      shown = h.1.shown;
       starts = h.1.starts;
     },
   )

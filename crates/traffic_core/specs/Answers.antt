@@ -10,7 +10,7 @@ use Rattle.gh_base.specs.Networks.{Network}
 use Rattle.walk_rules.specs.Walks.{weight_of}
 use Rattle.walk_rules.specs.Distances.{label_at}
 use Rattle.walk_rules.specs.Starts.{StartsWithin, StartsAtAll}
-use Rattle.walk_rules.specs.Evidence.{IsEvidence, IsEvidenceLabel}
+use Rattle.walk_rules.specs.Evidence.{IsEvidence, IsEvidenceLabel, IsShownLeast, IsShownNone}
 use Rattle.model_eval.specs.declared.custom_model.CustomModel.{CustomModel}
 use Rattle.traffic_core.specs.declared.query.RouteQuery.{RouteQuery}
 use Rattle.traffic_core.specs.declared.spot.Spot.{Spot}
@@ -53,7 +53,7 @@ pub record Plan : Type 0 where
   pub target : ℕ
   pub bound : ℕ → Option ℕ
 
--- a least walk of these, empty from a tower to itself, with its weight, which isn't too great, and its mm; and as many starts as its search needs
+-- a least walk of these, empty from a tower to itself, with its weight, which isn't too great, and its mm; labels that show that none weighs less; and as many starts as its search needs
 pub record IsRightWalk (IsSo : List Hop → Type 0) (plan : Plan) (mm_of : List Hop → ℕ) (weight mm settled : ℕ) (hops : List Hop) : Type 0 where
   pub walk : IsSo hops
   pub weight_is : weight_of hops ≡ weight
@@ -61,6 +61,7 @@ pub record IsRightWalk (IsSo : List Hop → Type 0) (plan : Plan) (mm_of : List 
   pub empty : plan.start ≡ plan.target → hops ≡ []
   pub within : weight ≤ greatest_weight
   pub mm_is : mm ≡ mm_of hops
+  pub shown : IsShownLeast plan.network plan.bound plan.start plan.target weight
   pub starts : StartsWithin plan.network plan.bound plan.start plan.target weight settled
 
 -- the least weight of these, which isn't too great, and the evidence label of each tower; with labels of the two ends they show that no walk weighs less
@@ -73,12 +74,13 @@ pub record AreRightLabels (IsSo : List Hop → Type 0) (plan : Plan) (towers wei
   pub same : (node : ℕ) → node < towers → all node ≡ label_at labels node
   pub evidence : IsEvidence plan.network all plan.start plan.target weight
 
--- which answer is right among these walks: that there is none, or a least one unless it weighs too much, or labels where they are asked for
+-- which answer is right among these walks: that there is none, as a set of nodes shows, or a least one unless it weighs too much, or labels where they are asked for
 abbrev pub IsRightAmong : (List Hop → Type 0) → Plan → (List Hop → ℕ) → ℕ → Bool → RouteAnswer → Type 0
 IsRightAmong IsSo plan mm_of towers labels (NoNode id) = ⊥
 IsRightAmong IsSo plan mm_of towers labels (NoSnap point) = ⊥
 IsRightAmong IsSo plan mm_of towers labels (NoRoute settled) =
     ((hops : List Hop) → IsSo hops → ⊥) × StartsAtAll plan.network plan.bound plan.start plan.target settled
+    × IsShownNone plan.network plan.bound plan.start plan.target
 IsRightAmong IsSo plan mm_of towers labels (WeightOverflow weight) = IsLeastOf IsSo weight × (greatest_weight < weight)
 IsRightAmong IsSo plan mm_of towers labels (Walk weight mm settled hops) = (labels ≡ false) × IsRightWalk IsSo plan mm_of weight mm settled hops
 IsRightAmong IsSo plan mm_of towers labels (Labelled weight list) = (labels ≡ true) × AreRightLabels IsSo plan towers weight list

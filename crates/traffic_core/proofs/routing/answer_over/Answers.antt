@@ -23,6 +23,7 @@ returns-else-labels g c = λ feasible.
     let walk = rw c.in-Walk.is at c.in_ok-settled.ensures.walk in
     let least = rw c.in-Walk.is at (c.in_ok-settled.ensures.least feasible) in
     let long = rw c.in-Walk.is at c.in_ok-settled.ensures.long in
+    let shown = rw c.in-Walk.is at (c.in_ok-settled.ensures.shown feasible) in
     let starts = rw c.in-Walk.is at (c.in_ok-settled.ensures.within feasible) in (
       c.if-labels.false,
       record {
@@ -32,6 +33,7 @@ returns-else-labels g c = λ feasible.
         empty = λ same. none_long c.in-Walk.hops c.in-Walk.settled long (rw c.in-Walk.is at (c.in_ok-settled.ensures.here same));
         within = omega arith;
         mm_is = c.walk_mm-mm.ensures ∙ ap (mm_between c.args.graph.now.lists c.args.ends.from c.args.ends.to) c.as_slice.ensures;
+        shown = shown;
         starts = starts;
       },
     )
