@@ -14,7 +14,7 @@ use Rattle.weighting.specs.declared.weight_view.Side.TheVariants.{Out}
 use Rattle.weighting.specs.Rules.{Rule, alone}
 use Rattle.weighting.specs.Roads.{network_by}
 use Rattle.weighting.specs.RoadFacts.{leads_to_nodes}
-use Rattle.weighting.specs.SlowRoads.{IsSlowing, HasStored, AreNowhereAbove, NoHopIsFaster}
+use Rattle.weighting.specs.SlowRoads.{IsSlowing, AreNowhereAbove, NoHopIsFaster}
 use Rattle.landmark_prep.specs.Preparations.{Preparation, nodes_of}
 use Rattle.landmark_prep.specs.Bounds.{AreFit, bound_of, labels_at, picked, potential_of}
 use Rattle.landmark_prep.specs.Choosing.{AreActive}
@@ -39,14 +39,14 @@ module _ (land : Land) (graph : Graph) (same : graph ≡ land.graph) (prep : Pre
         is ∙ ap (λ (r : Reach). potential_of (picked prep.labels active) r (nodes_of prep.labels)) leads ∙ ap (potential_of (picked prep.labels active) trip.to) nodes,
       )
 
-  module _ (facts : IsGraph graph) (stored : HasStored graph) (rule : Rule) (limits : DirEdge → ℕ) (slow : IsSlowing rule) (profile : alone rule ≡ rule_alone (profile_at land.profiles prep.profile)) (above : AreNowhereAbove land.graph limits (limit_in prep.snapshot)) where
+  module _ (facts : IsGraph graph) (rule : Rule) (limits : DirEdge → ℕ) (slow : IsSlowing rule) (profile : alone rule ≡ rule_alone (profile_at land.profiles prep.profile)) (above : AreNowhereAbove land.graph limits (limit_in prep.snapshot)) where
     -- no hop is faster than it was at the snapshot under the profile alone
     no_faster : NoHopIsFaster → IsNoFaster (network_at land prep.profile (limit_in prep.snapshot)) (network_by rule limits graph)
     no_faster falls =
         let earlier = limit_in prep.snapshot in
         let here : AreNowhereAbove graph limits earlier = subst (λ (g : Graph). AreNowhereAbove g limits earlier) (sym same) above in
         subst (λ (g : Graph). IsNoFaster (network_by (rule_alone (profile_at land.profiles prep.profile)) earlier g) (network_by rule limits graph)) same
-        (subst (λ (r : Rule). IsNoFaster (network_by r earlier graph) (network_by rule limits graph)) profile (falls Out rule graph limits earlier slow facts stored here))
+        (subst (λ (r : Rule). IsNoFaster (network_by r earlier graph) (network_by rule limits graph)) profile (falls Out rule graph limits earlier slow facts here))
 
     pub feasible_between : (from to : Spot) → goal ≡ reach_to rule limits graph to → PreparationsFit → NoHopIsFaster
         → ((base network : Network) (leave : Leave) (direct : List (Option Hop)) → AreFit base prep → IsNoFaster base network → LeadsToNodes network → network.nodes ≡ nodes_of prep.labels

@@ -8,7 +8,6 @@ use Rattle.location_grid.specs.declared.edge_bits.EdgeBits.{EdgeBits}
 use Rattle.location_grid.specs.declared.grid.Grid.{Grid}
 use Rattle.weighting.specs.declared.profile.Profile.{Profile}
 use Rattle.weighting.specs.Roads.{is_usable}
-use Rattle.weighting.specs.SlowRoads.{HasStored}
 use Rattle.traffic_core.specs.Lands.{Land, IsLand, IsIndexOf, rule_alone}
 
 -- a set of just the edges that can be used under a profile alone
@@ -16,10 +15,9 @@ pub record AreUsable (graph : Graph) (profile : Profile) (bits : EdgeBits) : Typ
   pub edges : bits.edges ≡ length graph.edges
   pub has : (edge : ℕ) → edge < length graph.edges → has_bit bits.words.items edge ≡ is_usable (rule_alone profile) graph edge
 
--- the numbers of the towers by their ids, the grid, and the edges that can be used by profile; the values of edges are as they can be stored
+-- the numbers of the towers by their ids, the grid, and the edges that can be used by profile
 pub record IsGround (land : Land) (number_of : ℤ → Option ℕ) (grid : Grid) (usable : List EdgeBits) : Type 0 where
   pub land_is : IsLand land
-  pub stored : HasStored land.graph
   pub numbers : IsIndexOf land.ids number_of
   pub grid_is : IsGridOf land.graph grid
   pub usable_are : AllZip (AreUsable land.graph) land.profiles usable

@@ -5,7 +5,6 @@ ghost use Rattle.std.specs.Ordering.{int_eq};
 ghost use Rattle.gh_base.specs.Places.{IsOnEarth};
 ghost use Rattle.model_eval.specs.Models.{IsModel};
 ghost use Rattle.weighting.specs.declared.profile.Profile.{Profile};
-ghost use Rattle.weighting.specs.SlowRoads.{HasStored};
 ghost use Rattle.traffic_core.specs.Lands.{AreAsLong, IsTower, IsNoTower, profile_at};
 ghost use Rattle.traffic_core.specs.Places.{IsSpot, IsSnapOf, IsPlace};
 ghost use Rattle.traffic_core.specs.Spots.{IsOn};
@@ -20,7 +19,7 @@ use map_import::Roads;
 use std::alloc::Global;
 use std::collections::HashMap;
 use std::marker::Model;
-use weighting::{Profile, Profiles, graph_values_are_stored};
+use weighting::{Profile, Profiles};
 
 /// Roads, the id of each of their towers, and profiles, with what finds places on them. Contracts see the
 /// roads, the ids and the profiles.
@@ -63,7 +62,6 @@ impl Ground {
         requires models { All (λ (profile : Profile). IsModel profile.model) profiles }
         ensures { IfOk result (λ made. made ≡ record { graph = roads.graph.lists; ids = roads.ids; profiles = profiles }) }
     {
-        graph_values_are_stored(&roads.graph);
         let numbers = numbers_of(alloc, roads.ids.as_slice())?;
         let grid = Grid::build(alloc, &roads.graph)?;
         let usable = usable_edges(alloc, &roads.graph, profiles.as_slice())?;
@@ -77,8 +75,7 @@ impl Ground {
     }
 
     pub fn graph(&self) -> &BaseGraph
-        ensures graph { result.now.lists ≡ self.now.graph }
-        ensures stored { HasStored result.now.lists }
+        ensures { result.now.lists ≡ self.now.graph }
     {
         &self.roads.graph
     }

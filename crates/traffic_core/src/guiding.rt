@@ -2,7 +2,7 @@
 ghost use Rattle.std.specs.Prelude.{◌≡◌, ◌<◌, Some, length};
 ghost use Rattle.walk_rules.specs.Potentials.{IsFeasible};
 ghost use Rattle.weighting.specs.Rules.{alone};
-ghost use Rattle.weighting.specs.SlowRoads.{IsSlowing, HasStored, AreNowhereAbove};
+ghost use Rattle.weighting.specs.SlowRoads.{IsSlowing, AreNowhereAbove};
 ghost use Rattle.landmark_prep.specs.Preparations.{nodes_of};
 ghost use Rattle.traffic_core.specs.Lands.{profile_at, rule_alone};
 ghost use Rattle.traffic_core.specs.History.{limit_in};
@@ -40,7 +40,6 @@ pub(crate) fn potential_between<'a, L: Limits>(
     to: Spot,
 ) -> LandmarkPotential<'a>
     requires ground { pieces.now.graph.now.lists ≡ ground.now.graph }
-    requires stored { HasStored pieces.now.graph.now.lists }
     requires from { IsOn pieces.now.graph.now.lists from }
     requires to { IsOn pieces.now.graph.now.lists to }
     requires slow { IsSlowing pieces.now.weighting.now }

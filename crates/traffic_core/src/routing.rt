@@ -5,7 +5,7 @@ ghost use Rattle.walk_rules.specs.Walks.{IsWalk};
 ghost use Rattle.walk_rules.specs.Potentials.{IsFeasible};
 ghost use Rattle.weighting.specs.Rules.{alone};
 ghost use Rattle.weighting.specs.Roads.{AreOver};
-ghost use Rattle.weighting.specs.SlowRoads.{OnlySlows, IsSlowing, HasStored};
+ghost use Rattle.weighting.specs.SlowRoads.{OnlySlows, IsSlowing};
 ghost use Rattle.traffic_core.specs.Lands.{profile_at, rule_alone};
 ghost use Rattle.traffic_core.specs.Places.{IsPlace};
 ghost use Rattle.traffic_core.specs.Spots.{IsOn};
@@ -167,7 +167,6 @@ fn answer_between<L: Limits>(
     labels: bool,
 ) -> Result<RouteAnswer, NoMemory>
     requires ground { pieces.now.graph.now.lists ≡ ground.now.graph }
-    requires stored { HasStored pieces.now.graph.now.lists }
     requires from { IsOn pieces.now.graph.now.lists from }
     requires to { IsOn pieces.now.graph.now.lists to }
     requires slow { IsSlowing pieces.now.weighting.now }

@@ -14,6 +14,6 @@ pub returns-clause-feasible : goal.returns-clause-feasible
 returns-clause-feasible g c =
     let graph = c.args.pieces.now.graph.now in
     feasible_between c.args.ground.now graph.lists c.requires.ground c.args.prep.now c.requires.nodes c.reach.result _
-    graph.facts c.requires.stored c.args.pieces.now.weighting.now (g.L.Limits.limit_of c.args.pieces.now.limits.now)
+    graph.facts c.args.pieces.now.weighting.now (g.L.Limits.limit_of c.args.pieces.now.limits.now)
     c.requires.slow c.requires.profile c.requires.above c.args.from c.args.to c.reach.ensures
     c.preparations_fit.ensures c.no_hop_is_faster.ensures c.potential.ensures.feasible

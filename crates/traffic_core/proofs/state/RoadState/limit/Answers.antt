@@ -13,4 +13,4 @@ returns c =
     let within : index_of c.args.edge < length (opening_limits graph.edges) = index_within (opening_limits graph.edges) graph c.args.edge (length-opening_limits graph.edges) there in
     let opening = limit_in-opening_limits graph c.args.edge in
     let got = rw c.index_of_edge.ensures at (c.get.ensures (opening_limits graph.edges) (rw c.index_of_edge.ensures within)) in
-    rw (c.unwrap_or.ensures, c.opening_limit-opening.ensures, c.values.ensures, c.graph.ensures.graph, ← c.self.view_is) (ap (λ (n : ℕ). unwrap_or c.get.result n) (sym opening) ∙ sym got)
+    rw (c.unwrap_or.ensures, c.opening_limit-opening.ensures, c.values.ensures, c.graph.ensures, ← c.self.view_is) (ap (λ (n : ℕ). unwrap_or c.get.result n) (sym opening) ∙ sym got)
