@@ -5,6 +5,7 @@ mod Usables
 mod Apart
 mod Once
 mod Guided
+mod Asking
 mod LimitIndex
 mod LimitsAfter
 mod SlotsAfter
