@@ -12,6 +12,8 @@ use Rattle.base_graph.specs.Graphs.{Graph, IsGraph, IsEdge, edge_at, head, tail,
 use Rattle.base_graph.specs.Facts.{edge_is}
 use Rattle.base_graph.specs.Starting.{around_edge}
 use Rattle.walk_rules.specs.Walks.{IsWalk}
+use Rattle.query_graph.specs.declared.ends.Leave.{Leave}
+use Rattle.query_graph.specs.declared.ends.Reach.{Reach}
 use Rattle.query_graph.specs.Ends.{given, ways_out, ways_in, LeavesIn, ReachesIn, AreDirect, hop_of}
 use Rattle.query_graph.specs.Joined.{hops_into, first_or_later}
 use Rattle.weighting.specs.Rules.{Rule}
@@ -92,6 +94,11 @@ module _ (rule : Rule) (limits : DirEdge → ℕ) (graph : Graph) where
   directs_lead (Tower node) to hop c = absurd (omega (arith, c.1))
   directs_lead (Inside e x) (Tower node) hop c = absurd (omega (arith, c.1))
   directs_lead (Inside e x) (Inside f y) hop c = (direct_so (λ (h : Hop). h.to.0 ≡ length graph.places + 1) e x f y (λ reverse mm. refl) hop c, refl)
+
+  -- the same said of pieces that are those
+  pub directs_in : (from to : Spot) (nodes : ℕ) (leave : Leave) (reach : Reach) (direct : List (Option Hop)) → nodes ≡ length graph.places
+      → leave ≡ leave_from rule limits graph from → reach ≡ reach_to rule limits graph to → direct ≡ direct_between rule limits graph from to → AreDirect nodes leave reach direct
+  directs_in from to nodes leave reach direct n l r d = rw (n, l, r, d) (directs_lead from to)
 
 -- over an edge of the graph
 abbrev IsOver : Graph → Hop → Type 0

@@ -4,6 +4,8 @@ mod Index
 mod Usables
 mod Apart
 mod Once
+mod Guided
+mod Asking
 mod LimitIndex
 mod LimitsAfter
 mod SlotsAfter

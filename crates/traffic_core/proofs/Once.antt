@@ -19,12 +19,13 @@ use Rattle.base_graph.specs.Graphs.{Graph, points_of}
 use Rattle.location_grid.specs.Snaps.{IsSnapAmong, IsSnap, foot_at, segments}
 use Rattle.location_grid.specs.Nearest.{IsNearest}
 use Rattle.location_grid.specs.declared.grid.OnEdge.{OnEdge}
+use Rattle.landmark_prep.specs.Preparations.{Preparation}
 use Rattle.traffic_core.specs.declared.spot.Spot.{Spot}
 use Rattle.traffic_core.specs.declared.spot.Spot.TheVariants.{Tower, Inside}
 use Rattle.traffic_core.specs.Lands.{Land, IsLand}
 use Rattle.traffic_core.specs.Spots.{spot_along}
 use Rattle.traffic_core.specs.Places.{IsSpot, IsSpotOf, IsSnapOf, usable_in}
-use Rattle.traffic_core.specs.Answers.{Asked, Plan, IsLeastOf, IsRightAmong, IsRightBetween, IsMissing, IsRightFrom, IsRightBy, missing}
+use Rattle.traffic_core.specs.Answers.{Asked, Plan, IsLeastOf, IsRightAmong, IsRightBetween, IsMissing, IsRightFrom, IsRightAnswer, missing}
 use Rattle.traffic_core.specs.Laws.{OneSpot, OneWeight, weight_in}
 
 -- what is so of each item is so of one
@@ -140,7 +141,7 @@ no_weight : (place : Place) (point : ℕ) → weight_in (missing place point) �
 no_weight (Id id) point = refl
 no_weight (At place) point = refl
 
-module _ (land : Land) (l : IsLand land) (limits : DirEdge → ℕ) (bound : Spot → Spot → ℕ → Option ℕ) (asks : Asked) where
+module _ (land : Land) (l : IsLand land) (limits : DirEdge → ℕ) (one other : Option Preparation) (asks : Asked) where
   missing_tells : (answer : RouteAnswer) → IsMissing land asks answer → weight_in answer ≡ None
   missing_tells answer (inl h) = ap weight_in h.1 ∙ no_weight asks.from 1
   missing_tells answer (inr h) = ap weight_in h.2 ∙ no_weight asks.to 2
@@ -148,25 +149,25 @@ module _ (land : Land) (l : IsLand land) (limits : DirEdge → ℕ) (bound : Spo
   not_nowhere : (place : Place) (spot : Spot) → IsSpot land asks.profile place None → IsSpot land asks.profile place (Some spot) → ⊥
   not_nowhere place spot none some = let e : None ≡ Some spot = spot_once land l asks.profile place None (Some spot) none some in cc
 
-  not_missing : (a b : RouteAnswer) → IsMissing land asks a → IsRightFrom land limits bound asks b → ⊥
-  not_missing a b (inl h) r = not_nowhere asks.from r.from h.0 r.from_is
-  not_missing a b (inr h) r = not_nowhere asks.to r.to h.1 r.to_is
+  not_missing : (prep : Option Preparation) (a b : RouteAnswer) → IsMissing land asks a → IsRightFrom land limits prep asks b → ⊥
+  not_missing prep a b (inl h) r = not_nowhere asks.from r.from h.0 r.from_is
+  not_missing prep a b (inr h) r = not_nowhere asks.to r.to h.1 r.to_is
 
   same_spot : (place : Place) (s t : Spot) → IsSpot land asks.profile place (Some s) → IsSpot land asks.profile place (Some t) → s ≡ t
   same_spot place s t a b = let e : Some s ≡ Some t = spot_once land l asks.profile place (Some s) (Some t) a b in cc
 
-  right_tells : (a b : RouteAnswer) → IsRightFrom land limits bound asks a → IsRightFrom land limits bound asks b → weight_in a ≡ weight_in b
+  right_tells : (a b : RouteAnswer) → IsRightFrom land limits one asks a → IsRightFrom land limits other asks b → weight_in a ≡ weight_in b
   right_tells a b x y =
-      let here : IsRightBetween land limits (bound x.from x.to) asks x.from x.to b =
-      subst (λ (s : Spot). IsRightBetween land limits (bound s x.to) asks s x.to b) (sym (same_spot asks.from x.from y.from x.from_is y.from_is))
-      (subst (λ (s : Spot). IsRightBetween land limits (bound y.from s) asks y.from s b) (sym (same_spot asks.to x.to y.to x.to_is y.to_is)) y.right) in
+      let here : IsRightBetween land limits y.bound asks x.from x.to b =
+      subst (λ (s : Spot). IsRightBetween land limits y.bound asks s x.to b) (sym (same_spot asks.from x.from y.from x.from_is y.from_is))
+      (subst (λ (s : Spot). IsRightBetween land limits y.bound asks y.from s b) (sym (same_spot asks.to x.to y.to x.to_is y.to_is)) y.right) in
       told_once _ (weight_in a) (weight_in b) (told _ _ _ _ _ a x.right) (told _ _ _ _ _ b here)
 
-  once : (a b : RouteAnswer) → IsRightBy land limits bound asks a → IsRightBy land limits bound asks b → weight_in a ≡ weight_in b
+  once : (a b : RouteAnswer) → IsRightAnswer land limits one asks a → IsRightAnswer land limits other asks b → weight_in a ≡ weight_in b
   once a b (inl x) (inl y) = missing_tells a x ∙ sym (missing_tells b y)
-  once a b (inl x) (inr y) = absurd (not_missing a b x y)
-  once a b (inr x) (inl y) = absurd (not_missing b a y x)
+  once a b (inl x) (inr y) = absurd (not_missing other a b x y)
+  once a b (inr x) (inl y) = absurd (not_missing one b a y x)
   once a b (inr x) (inr y) = right_tells a b x y
 
 pub weight_once : OneWeight
-weight_once land l limits bound asks a b x y = once land l limits bound asks a b x y
+weight_once land l limits one other asks a b x y = once land l limits one other asks a b x y

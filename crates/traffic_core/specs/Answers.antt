@@ -8,16 +8,17 @@ use Rattle.gh_base.specs.declared.query.RouteAnswer.{RouteAnswer}
 use Rattle.gh_base.specs.declared.query.RouteAnswer.TheVariants.{NoNode, NoSnap, NoRoute, WeightOverflow, Walk, Labelled}
 use Rattle.gh_base.specs.Networks.{Network}
 use Rattle.walk_rules.specs.Walks.{weight_of}
-use Rattle.walk_rules.specs.Potentials.{flat}
 use Rattle.walk_rules.specs.Distances.{label_at}
 use Rattle.walk_rules.specs.Starts.{StartsWithin, StartsAtAll}
-use Rattle.walk_rules.specs.Evidence.{IsEvidence, IsEvidenceLabel}
+use Rattle.walk_rules.specs.Evidence.{IsEvidence, IsEvidenceLabel, IsShownLeast, IsShownNone}
 use Rattle.model_eval.specs.declared.custom_model.CustomModel.{CustomModel}
 use Rattle.traffic_core.specs.declared.query.RouteQuery.{RouteQuery}
 use Rattle.traffic_core.specs.declared.spot.Spot.{Spot}
+use Rattle.landmark_prep.specs.Preparations.{Preparation}
 use Rattle.traffic_core.specs.Trips.{Trip, IsWalkOf, trip_network, trip_start, trip_target, trip_by, mm_between}
 use Rattle.traffic_core.specs.Places.{IsSpot, IsNowhere, IsSomewhere}
 use Rattle.traffic_core.specs.Lands.{Land, rule_of}
+use Rattle.traffic_core.specs.Truth.{IsBoundOf}
 
 -- what a query asks
 pub record Asked : Type 0 where
@@ -52,7 +53,7 @@ pub record Plan : Type 0 where
   pub target : ℕ
   pub bound : ℕ → Option ℕ
 
--- a least walk of these, empty from a tower to itself, with its weight, which isn't too great, and its mm; and as many starts as its search needs
+-- a least walk of these, empty from a tower to itself, with its weight, which isn't too great, and its mm; labels that show that none weighs less; and as many starts as its search needs
 pub record IsRightWalk (IsSo : List Hop → Type 0) (plan : Plan) (mm_of : List Hop → ℕ) (weight mm settled : ℕ) (hops : List Hop) : Type 0 where
   pub walk : IsSo hops
   pub weight_is : weight_of hops ≡ weight
@@ -60,6 +61,7 @@ pub record IsRightWalk (IsSo : List Hop → Type 0) (plan : Plan) (mm_of : List 
   pub empty : plan.start ≡ plan.target → hops ≡ []
   pub within : weight ≤ greatest_weight
   pub mm_is : mm ≡ mm_of hops
+  pub shown : IsShownLeast plan.network plan.bound plan.start plan.target weight
   pub starts : StartsWithin plan.network plan.bound plan.start plan.target weight settled
 
 -- the least weight of these, which isn't too great, and the evidence label of each tower; with labels of the two ends they show that no walk weighs less
@@ -72,12 +74,13 @@ pub record AreRightLabels (IsSo : List Hop → Type 0) (plan : Plan) (towers wei
   pub same : (node : ℕ) → node < towers → all node ≡ label_at labels node
   pub evidence : IsEvidence plan.network all plan.start plan.target weight
 
--- which answer is right among these walks: that there is none, or a least one unless it weighs too much, or labels where they are asked for
+-- which answer is right among these walks: that there is none, as a set of nodes shows, or a least one unless it weighs too much, or labels where they are asked for
 abbrev pub IsRightAmong : (List Hop → Type 0) → Plan → (List Hop → ℕ) → ℕ → Bool → RouteAnswer → Type 0
 IsRightAmong IsSo plan mm_of towers labels (NoNode id) = ⊥
 IsRightAmong IsSo plan mm_of towers labels (NoSnap point) = ⊥
 IsRightAmong IsSo plan mm_of towers labels (NoRoute settled) =
     ((hops : List Hop) → IsSo hops → ⊥) × StartsAtAll plan.network plan.bound plan.start plan.target settled
+    × IsShownNone plan.network plan.bound plan.start plan.target
 IsRightAmong IsSo plan mm_of towers labels (WeightOverflow weight) = IsLeastOf IsSo weight × (greatest_weight < weight)
 IsRightAmong IsSo plan mm_of towers labels (Walk weight mm settled hops) = (labels ≡ false) × IsRightWalk IsSo plan mm_of weight mm settled hops
 IsRightAmong IsSo plan mm_of towers labels (Labelled weight list) = (labels ≡ true) × AreRightLabels IsSo plan towers weight list
@@ -86,10 +89,14 @@ IsRightAmong IsSo plan mm_of towers labels (Labelled weight list) = (labels ≡ 
 abbrev pub plan_of : Trip → (ℕ → Option ℕ) → Plan
 plan_of trip bound = record { network = trip_network trip; start = trip_start trip; target = trip_target trip; bound = bound }
 
--- which answer is right for two spots
+-- the trip of a query between two spots
+abbrev pub trip_between : Land → (DirEdge → ℕ) → Asked → Spot → Spot → Trip
+trip_between land limits asks from to = trip_by (rule_of land asks.profile asks.model) limits land.graph from to
+
+-- which answer is right between two spots, where a search looks ahead by a bound
 abbrev pub IsRightBetween : Land → (DirEdge → ℕ) → (ℕ → Option ℕ) → Asked → Spot → Spot → RouteAnswer → Type 0
 IsRightBetween land limits bound asks from to answer =
-    let trip = trip_by (rule_of land asks.profile asks.model) limits land.graph from to in
+    let trip = trip_between land limits asks from to in
     IsRightAmong (IsWalkOf trip) (plan_of trip bound) (mm_between land.graph from to) (length land.graph.places) asks.labels answer
 
 -- the answer for a place, the first or the second, that isn't on the roads
@@ -103,18 +110,16 @@ IsMissing land asks answer =
     (IsNowhere land asks.profile asks.from × (answer ≡ missing asks.from 1))
     ⊎ (IsSomewhere land asks.profile asks.from × IsNowhere land asks.profile asks.to × (answer ≡ missing asks.to 2))
 
--- both places are on the roads, and the answer is right between them
-pub record IsRightFrom (land : Land) (limits : DirEdge → ℕ) (bound : Spot → Spot → ℕ → Option ℕ) (asks : Asked) (answer : RouteAnswer) : Type 0 where
+-- both places are on the roads, and the answer is right between them, by the bound that guides a search there
+pub record IsRightFrom (land : Land) (limits : DirEdge → ℕ) (prep : Option Preparation) (asks : Asked) (answer : RouteAnswer) : Type 0 where
   pub from : Spot
   pub to : Spot
   pub from_is : IsSpot land asks.profile asks.from (Some from)
   pub to_is : IsSpot land asks.profile asks.to (Some to)
-  pub right : IsRightBetween land limits (bound from to) asks from to answer
+  pub bound : ℕ → Option ℕ
+  pub bound_is : IsBoundOf land (trip_between land limits asks from to) from to prep bound
+  pub right : IsRightBetween land limits bound asks from to answer
 
--- which answer is right where a search for two spots looks ahead by a bound
-abbrev pub IsRightBy : Land → (DirEdge → ℕ) → (Spot → Spot → ℕ → Option ℕ) → Asked → RouteAnswer → Type 0
-IsRightBy land limits bound asks answer = IsMissing land asks answer ⊎ IsRightFrom land limits bound asks answer
-
--- which answer is right
-abbrev pub IsRightAnswer : Land → (DirEdge → ℕ) → Asked → RouteAnswer → Type 0
-IsRightAnswer land limits asks answer = IsRightBy land limits (λ from to. flat) asks answer
+-- which answer is right at these limits, with a preparation that guides the search, or with none
+abbrev pub IsRightAnswer : Land → (DirEdge → ℕ) → Option Preparation → Asked → RouteAnswer → Type 0
+IsRightAnswer land limits prep asks answer = IsMissing land asks answer ⊎ IsRightFrom land limits prep asks answer

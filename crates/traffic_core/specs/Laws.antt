@@ -14,7 +14,8 @@ use Rattle.traffic_core.specs.declared.spot.Spot.TheVariants.{Tower, Inside}
 use Rattle.traffic_core.specs.Lands.{Land, IsLand}
 use Rattle.traffic_core.specs.Places.{IsSpot}
 use Rattle.traffic_core.specs.Trips.{edge_mm, mm_before, mm_behind, mm_between}
-use Rattle.traffic_core.specs.Answers.{Asked, IsRightBy}
+use Rattle.landmark_prep.specs.Preparations.{Preparation}
+use Rattle.traffic_core.specs.Answers.{Asked, IsRightAnswer}
 
 -- between towers a walk is as long as its edges together
 abbrev pub WholeWalksAreEdges : Type 0
@@ -50,7 +51,7 @@ weight_in (WeightOverflow weight) = Some weight
 weight_in (Walk weight mm settled hops) = Some weight
 weight_in (Labelled weight labels) = Some weight
 
--- all right answers to a query tell the same weight, or none: where a route is right, that there is none isn't
+-- all right answers to a query tell the same weight, or none, whatever guides the searches: where a route is right, that there is none isn't
 abbrev pub OneWeight : Type 0
-OneWeight = (land : Land) → IsLand land → (limits : DirEdge → ℕ) (bound : Spot → Spot → ℕ → Option ℕ) (asks : Asked) (first second : RouteAnswer) →
-    IsRightBy land limits bound asks first → IsRightBy land limits bound asks second → weight_in first ≡ weight_in second
+OneWeight = (land : Land) → IsLand land → (limits : DirEdge → ℕ) (one other : Option Preparation) (asks : Asked) (first second : RouteAnswer) →
+    IsRightAnswer land limits one asks first → IsRightAnswer land limits other asks second → weight_in first ≡ weight_in second

@@ -11,4 +11,5 @@ pub mod HistoryLaws
 pub mod Truth
 pub mod Grounds
 pub mod Answers
+pub mod Queries
 pub mod Laws

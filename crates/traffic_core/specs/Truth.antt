@@ -5,8 +5,9 @@ use Rattle.gh_base.specs.Networks.{Network}
 use Rattle.walk_rules.specs.Potentials.{flat}
 use Rattle.base_graph.specs.Graphs.{Graph, edge_at}
 use Rattle.weighting.specs.Roads.{network_by}
+use Rattle.weighting.specs.SlowRoads.{AreNowhereAbove}
 use Rattle.landmark_choice.specs.Parts.{IsBarred}
-use Rattle.landmark_prep.specs.Preparations.{Preparation, IsPrepOf}
+use Rattle.landmark_prep.specs.Preparations.{Preparation, IsPrepOf, nodes_of}
 use Rattle.landmark_prep.specs.Bounds.{bound_of, labels_at, picked, potential_of}
 use Rattle.landmark_prep.specs.Choosing.{AreActive}
 use Rattle.traffic_core.specs.declared.entry.Entry.{Entry}
@@ -35,6 +36,13 @@ pub record IsTrueOver (land : Land) (prep : Preparation) : Type 0 where
   pub there : prep.profile < length land.profiles
   pub long : length prep.snapshot ≡ 2 * length land.graph.edges
   pub is_prep : IsPrepOf (network_at land prep.profile (limit_in prep.snapshot)) (length prep.landmarks) prep
+
+-- it is one of the profile, with a snapshot limit for each directed edge and labels for each tower, and no limit is above its snapshot's
+pub record CanGuide (land : Land) (limits : DirEdge → ℕ) (profile : ℕ) (prep : Preparation) : Type 0 where
+  pub of_profile : prep.profile ≡ profile
+  pub long : length prep.snapshot ≡ 2 * length land.graph.edges
+  pub nodes : nodes_of prep.labels ≡ length land.graph.places
+  pub above : AreNowhereAbove land.graph limits (limit_in prep.snapshot)
 
 -- the tower that stands for a spot where landmarks are picked: a tower itself, and the base of an edge for a spot inside it
 abbrev pub representative : Graph → Spot → ℕ

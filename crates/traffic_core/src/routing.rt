@@ -1,23 +1,30 @@
 //! Routes: least walks between two places.
-ghost use Rattle.std.specs.Prelude.{◌≡◌, ◌<◌, ◌≤◌, List, length, take, IfOk};
+ghost use Rattle.std.specs.Prelude.{◌≡◌, ◌<◌, ◌≤◌, ℕ, Option, List, length, take, IfOk, IfSome};
 ghost use Rattle.gh_base.specs.declared.edges.Hop.{Hop};
 ghost use Rattle.walk_rules.specs.Walks.{IsWalk};
-ghost use Rattle.walk_rules.specs.Potentials.{flat};
+ghost use Rattle.walk_rules.specs.Potentials.{IsFeasible};
+ghost use Rattle.weighting.specs.Rules.{alone};
 ghost use Rattle.weighting.specs.Roads.{AreOver};
+ghost use Rattle.weighting.specs.SlowRoads.{OnlySlows, IsSlowing};
+ghost use Rattle.traffic_core.specs.Lands.{profile_at, rule_alone};
 ghost use Rattle.traffic_core.specs.Places.{IsPlace};
 ghost use Rattle.traffic_core.specs.Spots.{IsOn};
-ghost use Rattle.traffic_core.specs.Trips.{trip_by, mm_between, IsWalkOf, start_for, target_for};
+ghost use Rattle.traffic_core.specs.Trips.{trip_by, mm_between, IsWalkOf, trip_network, trip_target, start_for, target_for};
+ghost use Rattle.traffic_core.specs.Truth.{IsTrueOver, IsBoundOf, CanGuide};
+ghost use Rattle.traffic_core.specs.Seen.{seen};
 ghost use Rattle.traffic_core.specs.Answers as spec;
 
 use crate::ground::Ground;
+use crate::guiding::potential_between;
 use crate::lengths::walk_mm;
 use crate::pieces::Pieces;
 use crate::query::RouteQuery;
 use crate::spot::Spot;
 use alt_search::{FlatPotential, Found, search};
 use base_graph::BaseGraph;
-use gh_base::{LabelList, Limits, NoMemory, NodeId, Place, RoadView, RouteAnswer};
+use gh_base::{LabelList, Limits, NoMemory, NodeId, Place, Potential, RoadView, RouteAnswer};
 use label_certificate::labels_of;
+use landmark_prep::Prep;
 use query_graph::QueryView;
 use std::alloc::Global;
 use weighting::{Side, WeightView, Weighting};
@@ -44,11 +51,13 @@ fn front_of(labels: LabelList, towers: u32) -> LabelList
     LabelList::from_vec(list)
 }
 
-/// The answer to a search from end to end: a least walk, or labels that show that no walk weighs less.
-fn answer_over<V: RoadView>(
+/// The answer to a search from end to end: a least walk, or labels that show that no walk weighs less. It is
+/// right where the potential is feasible.
+fn answer_over<V: RoadView, P: Potential>(
     alloc: Global,
     graph: &BaseGraph,
     view: &mut V,
+    potential: &P,
     ends: Ends,
     labels: bool,
 ) -> Result<RouteAnswer, NoMemory>
@@ -59,11 +68,12 @@ fn answer_over<V: RoadView>(
     requires starts { V.starts view.old ≡ 0 }
     requires towers { length graph.now.lists.places ≤ (V.network view.old).nodes }
     requires over { (hops : List Hop) → IsWalk (V.network view.old) ends.start.0 hops ends.target.0 → AreOver graph.now.lists hops }
-    ensures { IfOk result (spec.IsRightAmong (λ hops. IsWalk (V.network view.old) ends.start.0 hops ends.target.0)
-        (record { network = V.network view.old; start = ends.start.0; target = ends.target.0; bound = flat })
+    ensures { IsFeasible (V.network view.old) (P.bound potential.now) ends.target.0 →
+        IfOk result (spec.IsRightAmong (λ hops. IsWalk (V.network view.old) ends.start.0 hops ends.target.0)
+        (record { network = V.network view.old; start = ends.start.0; target = ends.target.0; bound = P.bound potential.now })
         (mm_between graph.now.lists ends.from ends.to) (length graph.now.lists.places) labels) }
 {
-    match search(alloc, view, &FlatPotential, ends.start, ends.target)? {
+    match search(alloc, view, potential, ends.start, ends.target)? {
         Found::NoWalk { settled } => Ok(RouteAnswer::NoRoute { settled }),
         Found::Walk {
             hops,
@@ -75,7 +85,7 @@ fn answer_over<V: RoadView>(
             }
             let weight = weight as u64;
             if labels {
-                let list = labels_of(alloc, view, &FlatPotential, ends.start, ends.target, weight)?;
+                let list = labels_of(alloc, view, potential, ends.start, ends.target, weight)?;
                 return Ok(RouteAnswer::Labelled {
                     weight,
                     labels: front_of(list, graph.node_count()),
@@ -113,10 +123,11 @@ fn target_node(to: Spot, towers: u32) -> NodeId
     }
 }
 
-/// The answer for two spots.
-fn answer_between<L: Limits>(
+/// The answer for two spots by a search that looks ahead by a potential.
+fn answer_by<L: Limits, P: Potential>(
     alloc: Global,
     pieces: &Pieces<'_, L>,
+    potential: &P,
     from: Spot,
     to: Spot,
     labels: bool,
@@ -124,7 +135,8 @@ fn answer_between<L: Limits>(
     requires from { IsOn pieces.now.graph.now.lists from }
     requires to { IsOn pieces.now.graph.now.lists to }
     ensures { let trip = trip_by pieces.now.weighting.now (L.limit_of pieces.now.limits.now) pieces.now.graph.now.lists from to in
-        IfOk result (spec.IsRightAmong (IsWalkOf trip) (spec.plan_of trip flat) (mm_between pieces.now.graph.now.lists from to) (length pieces.now.graph.now.lists.places) labels) }
+        IsFeasible (trip_network trip) (P.bound potential.now) (trip_target trip) →
+        IfOk result (spec.IsRightAmong (IsWalkOf trip) (spec.plan_of trip (P.bound potential.now)) (mm_between pieces.now.graph.now.lists from to) (length pieces.now.graph.now.lists.places) labels) }
 {
     let graph = pieces.graph;
     let towers = graph.node_count();
@@ -141,7 +153,35 @@ fn answer_between<L: Limits>(
         start: start_node(from, towers),
         target: target_node(to, towers),
     };
-    answer_over(alloc, graph, &mut view, ends, labels)
+    answer_over(alloc, graph, &mut view, potential, ends, labels)
+}
+
+/// The answer for two spots. A preparation guides the search, if there is one.
+fn answer_between<L: Limits>(
+    alloc: Global,
+    ground: &Ground,
+    pieces: &Pieces<'_, L>,
+    prep: Option<&Prep>,
+    from: Spot,
+    to: Spot,
+    labels: bool,
+) -> Result<RouteAnswer, NoMemory>
+    requires ground { pieces.now.graph.now.lists ≡ ground.now.graph }
+    requires from { IsOn pieces.now.graph.now.lists from }
+    requires to { IsOn pieces.now.graph.now.lists to }
+    requires slow { IsSlowing pieces.now.weighting.now }
+    requires profile { IfSome prep (λ p. alone pieces.now.weighting.now ≡ rule_alone (profile_at ground.now.profiles p.now.profile)) }
+    requires prep { IfSome prep (λ p. CanGuide ground.now (L.limit_of pieces.now.limits.now) p.now.profile p.now) }
+    ensures { let trip = trip_by pieces.now.weighting.now (L.limit_of pieces.now.limits.now) pieces.now.graph.now.lists from to in
+        IfSome prep.entry (λ p. IsTrueOver ground.now p.now) →
+        IfOk result (λ answer. (bound : ℕ → Option ℕ) × IsBoundOf ground.now trip from to (seen prep.entry) bound
+        × spec.IsRightAmong (IsWalkOf trip) (spec.plan_of trip bound) (mm_between pieces.now.graph.now.lists from to) (length pieces.now.graph.now.lists.places) labels answer) }
+{
+    let Some(prep) = prep else {
+        return answer_by(alloc, pieces, &FlatPotential, from, to, labels);
+    };
+    let potential = potential_between(ground, pieces, prep, from, to);
+    answer_by(alloc, pieces, &potential, from, to, labels)
 }
 
 /// The answer for a place, the first or the second, that isn't on the roads.
@@ -154,18 +194,24 @@ fn missing(place: Place, point: u32) -> RouteAnswer
     }
 }
 
-/// The answer to a query at present limits: a least walk between its places, or why there is none to give.
+/// The answer to a query at present limits: a least walk between its places, or why there is none to give. A
+/// preparation, if there is one, guides the search. Where that is one of the profile at limits that were nowhere
+/// lower, the answer is right.
 pub fn route<L: Limits>(
     alloc: Global,
     ground: &Ground,
     limits: &L,
+    prep: Option<&Prep>,
     query: &RouteQuery<'_>,
 ) -> Result<RouteAnswer, NoMemory>
     requires limits { L.edges limits.now ≡ length ground.now.graph.edges }
     requires profile { query.now.profile < length ground.now.profiles }
     requires from { IsPlace query.now.from }
     requires to { IsPlace query.now.to }
-    ensures right { IfOk result (spec.IsRightAnswer ground.now (L.limit_of limits.now) (spec.asked query.now)) }
+    requires slow { OnlySlows (profile_at ground.now.profiles query.now.profile).model query.now.model.now }
+    requires prep { IfSome prep (λ p. CanGuide ground.now (L.limit_of limits.now) query.now.profile p.now) }
+    ensures right { IfSome prep.entry (λ p. IsTrueOver ground.now p.now) →
+        IfOk result (spec.IsRightAnswer ground.now (L.limit_of limits.now) (seen prep.entry) (spec.asked query.now)) }
 {
     let Some(from) = ground.spot(query.profile, query.from) else {
         return Ok(missing(query.from, 1));
@@ -175,5 +221,5 @@ pub fn route<L: Limits>(
     };
     let weighting = Weighting::new(ground.profile(query.profile), Some(query.model));
     let pieces = Pieces::new(ground.graph(), limits, &weighting);
-    answer_between(alloc, &pieces, from, to, query.labels)
+    answer_between(alloc, ground, &pieces, prep, from, to, query.labels)
 }

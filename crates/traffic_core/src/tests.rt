@@ -1,5 +1,5 @@
 //! Routes on small maps, in numbers worked out by hand.
-ghost use Rattle.std.specs.Prelude.{◌≡◌, ◌≤◌, length, IfSome, IfOk};
+ghost use Rattle.std.specs.Prelude.{◌≡◌, ◌≤◌, None, length, IfSome, IfOk};
 ghost use Rattle.model_eval.specs.Models.{IsModel};
 ghost use Rattle.model_eval.specs.Slowing.{IsSlow};
 ghost use Rattle.traffic_core.specs.Places.{IsPlace};
@@ -94,6 +94,7 @@ fn priority_model(alloc: Global, millionths: u32) -> Result<CustomModel, NoMemor
     requires { millionths ≤ 1000000 }
     ensures model { IfOk result IsModel }
     ensures slow { IfOk result IsSlow }
+    ensures influence { IfOk result (λ model. model.distance_influence ≡ None) }
 {
     let mut priority = Sequence::new(alloc);
     priority.push(Statement {
@@ -233,7 +234,7 @@ fn answer_to(alloc: Global, case: &Case<'_>) -> Option<Text> {
         to: on_earth(case.to),
         labels: case.labels,
     };
-    let answer = route(alloc, &ground, &limits, &query).ok()?;
+    let answer = route(alloc, &ground, &limits, None, &query).ok()?;
     let mut text = Text::new(alloc);
     put_answer(&mut text, &answer).ok()?;
     Some(text)
