@@ -1,2 +1,6 @@
+pub mod Holes
 pub mod Orders
+pub mod Paging
+pub mod Pigeons
 pub mod Places
+pub mod Tables

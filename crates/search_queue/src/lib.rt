@@ -6,6 +6,9 @@
 #![tactic(auto)]
 
 mod heap;
+mod node_table;
+mod pages;
 mod queue;
 
+pub use node_table::NodeTable;
 pub use queue::Queue;

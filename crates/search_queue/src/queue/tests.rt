@@ -1,5 +1,5 @@
 //! The queue against a plain one, which goes through all keys for the least.
-ghost use Rattle.std.specs.Prelude.{◌≡◌, ◌<◌, ◌≤◌, ℕ, Some, None, length, slice_set, IfSome, IfNone, IsSomeAnd};
+ghost use Rattle.std.specs.Prelude.{◌≡◌, ◌<◌, ◌≤◌, ℕ, Some, None, length, replicate, slice_set, IfOk, IfSome, IfNone, IsSomeAnd};
 ghost use Rattle.search_queue.specs.Keys.{key_at};
 
 use super::*;
@@ -26,6 +26,17 @@ fn least_key(keys: &[Option<u128>]) -> Option<(usize, u128)>
         }
     }
     least
+}
+
+/// A key for each node, and none there.
+fn empty_keys(alloc: Global, nodes: u32) -> Result<Vec<Option<u128>>, NoMemory>
+    ensures { IfOk result (λ keys. keys.items ≡ replicate nodes None) }
+{
+    let mut keys = Vec::with_capacity(alloc, nodes as usize)?;
+    for _ in 0..nodes {
+        keys.push(None)?;
+    }
+    Ok(keys)
 }
 
 fn put(queue: &mut Queue, plain: &mut [Option<u128>], node: u32, key: u128)
