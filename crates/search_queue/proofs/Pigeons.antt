@@ -31,38 +31,44 @@ pigeons (suc n) (suc k) f w a = elim (found (suc k) n f) [
   | inr none ↦ omega (arith, pigeons n (suc k) f (λ i l. let ne = none i l in omega (arith, w i l)) a)
   | inl h ↦
       let g = λ (i : ℕ). (moved h.0 (f k) f i).0 in
-      omega (arith, pigeons n k g
-        (λ i l. elim (cases_eq i h.0) [
-          | inl e ↦ let m = (moved h.0 (f k) f i).1.0 e in let ne : f k ≢ n = λ x. let s = a k h.0 (omega arith) h.1 (x ∙ sym h.2) in omega arith in omega (arith, w k (omega arith))
-          | inr other ↦ let m = (moved h.0 (f k) f i).1.1 other in let ne : f i ≢ n = λ x. let s = a i h.0 (omega arith) h.1 (x ∙ sym h.2) in omega arith in omega (arith, w i (omega arith))
-        ])
-        (λ i j l m same. elim (cases_eq i h.0) [
-          | inl e ↦ elim (cases_eq j h.0) [
-            | inl d ↦ omega arith
-            | inr d ↦ let p = (moved h.0 (f k) f i).1.0 e in let q = (moved h.0 (f k) f j).1.1 d in absurd (let s = a k j (omega arith) (omega arith) (omega arith) in omega arith)
-          ]
-          | inr e ↦ elim (cases_eq j h.0) [
-            | inl d ↦ let p = (moved h.0 (f k) f i).1.1 e in let q = (moved h.0 (f k) f j).1.0 d in absurd (let s = a k i (omega arith) (omega arith) (omega arith) in omega arith)
-            | inr d ↦ let p = (moved h.0 (f k) f i).1.1 e in let q = (moved h.0 (f k) f j).1.1 d in a i j (omega arith) (omega arith) (omega arith)
-          ]
-        ]))
+      omega (
+        arith,
+        pigeons n k g
+            (λ i l. elim (cases_eq i h.0) [
+              | inl e ↦ let m = (moved h.0 (f k) f i).1.0 e in let ne : f k ≢ n = λ x. let s = a k h.0 (omega arith) h.1 (x ∙ sym h.2) in omega arith in omega (arith, w k (omega arith))
+              | inr other ↦ let m = (moved h.0 (f k) f i).1.1 other in let ne : f i ≢ n = λ x. let s = a i h.0 (omega arith) h.1 (x ∙ sym h.2) in omega arith in omega (arith, w i (omega arith))
+            ])
+            (λ i j l m same. elim (cases_eq i h.0) [
+              | inl e ↦ elim (cases_eq j h.0) [
+                | inl d ↦ omega arith
+                | inr d ↦ let p = (moved h.0 (f k) f i).1.0 e in let q = (moved h.0 (f k) f j).1.1 d in absurd (let s = a k j (omega arith) (omega arith) (omega arith) in omega arith)
+              ]
+              | inr e ↦ elim (cases_eq j h.0) [
+                | inl d ↦ let p = (moved h.0 (f k) f i).1.1 e in let q = (moved h.0 (f k) f j).1.0 d in absurd (let s = a k i (omega arith) (omega arith) (omega arith) in omega arith)
+                | inr d ↦ let p = (moved h.0 (f k) f i).1.1 e in let q = (moved h.0 (f k) f j).1.1 d in a i j (omega arith) (omega arith) (omega arith)
+              ]
+            ]),
+      )
 ]
 
 -- where each of k places is that of some number below n, and one number has none, there are fewer
 pub fewer : (n k : ℕ) (place : ℕ → ℕ) → ((i : ℕ) → i < k → (v : ℕ) × (v < n) × (place v ≡ i + 1)) → (u : ℕ) → u < n → place u ≡ 0 → k < n
 fewer n k place owned u l none =
-    omega (arith, pigeons n (suc k) at
-      (λ i _. within i)
-      (λ i j a b same. elim (cases_lt i k) [
-        | inl x ↦ elim (cases_lt j k) [
-          | inl y ↦ let p = owner i x in let q = owner j y in let s = ap place same in omega arith
-          | inr y ↦ absurd (let p = owner i x in let q = nobody j y in let s = ap place same in omega arith)
-        ]
-        | inr x ↦ elim (cases_lt j k) [
-          | inl y ↦ absurd (let p = nobody i x in let q = owner j y in let s = ap place same in omega arith)
-          | inr y ↦ omega arith
-        ]
-      ]))
+    omega (
+      arith,
+      pigeons n (suc k) at
+          (λ i _. within i)
+          (λ i j a b same. elim (cases_lt i k) [
+            | inl x ↦ elim (cases_lt j k) [
+              | inl y ↦ let p = owner i x in let q = owner j y in let s = ap place same in omega arith
+              | inr y ↦ absurd (let p = owner i x in let q = nobody j y in let s = ap place same in omega arith)
+            ]
+            | inr x ↦ elim (cases_lt j k) [
+              | inl y ↦ absurd (let p = nobody i x in let q = owner j y in let s = ap place same in omega arith)
+              | inr y ↦ omega arith
+            ]
+          ]),
+    )
   where
     choice : (i : ℕ) → (v : ℕ) × (v < n) × (i < k → place v ≡ i + 1) × (k ≤ i → place v ≡ 0)
     choice i = elim (cases_lt i k) [

@@ -83,7 +83,7 @@ impl Heap {
         ensures taken { IfSome result (λ item. keys_of self.new ≡ slice_set (keys_of self.old) item.node None) }
     {
         let last = self.items.pop()?;
-        if self.items.is_empty() {
+        if self.items.len() == 0 {
             self.places.set(last.node, 0);
             return Some(last);
         }

@@ -1,4 +1,4 @@
-use Rattle.std.proofs.Common.{◌≡◌, ◌<◌, ◌≤◌, ℕ, length}
+use Rattle.std.proofs.Common.{◌≡◌, ◌<◌, ◌≤◌, ℕ}
 use Rattle.search_queue.specs.Heaps.{rank}
 use Rattle.search_queue.proofs.heap.Heap.least_child.Given as goal
 

@@ -1,8 +1,8 @@
-use Rattle.std.proofs.Common.{◌≡◌, ◌<◌, ◌-◌, ◌/◌, ℕ, Some, length, ap, refl, ◌∙◌, arith}
+use Rattle.std.proofs.Common.{◌≡◌, ◌<◌, ◌-◌, ◌/◌, length, ap, refl, ◌∙◌, arith}
 use Rattle.std.proofs.lemmas.List.{get_or_read}
 use Rattle.search_queue.specs.declared.heap.Item.{Item}
 use Rattle.search_queue.specs.Heaps.{item_at, rank, IsBelow}
-use Rattle.search_queue.proofs.Holes.{long_items, long_places, step_holed, step_keys, filled_pairs, filled_keys, rise_ends, rise_steps}
+use Rattle.search_queue.proofs.Holes.{long_places, step_holed, step_keys, filled_pairs, filled_keys, rise_ends, rise_steps}
 use Rattle.search_queue.proofs.heap.Heap.rise.Goals as goal
 
 pub returns-then-above-item-clause-heap : goal.returns-then-above-item-clause-heap

@@ -1,4 +1,4 @@
-use Rattle.std.proofs.Common.{◌≡◌, ◌<◌, ◌/◌, ◌*◌, length, sym, ap, ◌∙◌, arith}
+use Rattle.std.proofs.Common.{length, sym, ap, ◌∙◌, arith}
 use Rattle.std.specs.Prelude.{slice_index}
 use Rattle.search_queue.proofs.Tables.{length-numbers_in, number-numbers_in}
 use Rattle.search_queue.proofs.node_table.NodeTable.get.Goals as goal

@@ -1,4 +1,4 @@
-use Rattle.std.proofs.Common.{◌≡◌, ◌<◌, ◌/◌, ◌*◌, length, sym, ap, ◌∙◌, arith}
+use Rattle.std.proofs.Common.{length, ap, ◌∙◌, arith}
 use Rattle.std.specs.Prelude.{slice_set}
 use Rattle.search_queue.proofs.Tables.{length-numbers_in, written_numbers}
 use Rattle.search_queue.proofs.node_table.NodeTable.set.Goals as goal

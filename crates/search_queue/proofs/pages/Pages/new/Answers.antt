@@ -1,4 +1,4 @@
-use Rattle.std.proofs.Common.{◌≡◌, ℕ, ◌++◌, replicate, refl, ap, ◌∙◌, arith, rules}
+use Rattle.std.proofs.Common.{◌++◌, replicate, refl, ap, ◌∙◌, arith, rules}
 use Rattle.search_queue.proofs.Paging.{begun}
 use Rattle.search_queue.proofs.pages.Pages.new.Goals as goal
 
