@@ -99,3 +99,24 @@ fn nodes_come_by_key_and_equal_keys_in_any_order(rt: HostRuntime) -> Result<(), 
     assert_eq!(rt; pop(&rt, &mut queue, &mut plain), None);
     Ok(())
 }
+
+#[test]
+fn nodes_pages_apart_and_keys_past_64_bits_keep_their_order(rt: HostRuntime) -> Result<(), Fail> {
+    let mut queue = Queue::new(rt.alloc(), 3000)?;
+    let mut plain = empty_keys(rt.alloc(), 3000)?;
+    put(&mut queue, &mut plain, 2999, 18446744073709551617);
+    put(&mut queue, &mut plain, 0, 18446744073709551615);
+    put(&mut queue, &mut plain, 1500, 3);
+    assert_eq!(rt; queue.key_of(NodeId(2999)), Some(18446744073709551617));
+    assert_eq!(rt; pop(&rt, &mut queue, &mut plain), Some((1500, 3)));
+    assert_eq!(rt;
+        pop(&rt, &mut queue, &mut plain),
+        Some((0, 18446744073709551615))
+    );
+    assert_eq!(rt;
+        pop(&rt, &mut queue, &mut plain),
+        Some((2999, 18446744073709551617))
+    );
+    assert_eq!(rt; pop(&rt, &mut queue, &mut plain), None);
+    Ok(())
+}
