@@ -1,5 +1,5 @@
 //! The heap: nodes with their keys in an order, and for each node its place there.
-ghost use Rattle.std.specs.Prelude.{◌≡◌, ◌≢◌, ◌<◌, ◌≤◌, ◌^◌, ◌+◌, ◌*◌, ℕ, Some, None, List, [], length, replicate, slice_set, slice_index, vec_capacity, IfOk, IfSome, IfNone, IsSomeAnd};
+ghost use Rattle.std.specs.Prelude.{◌≡◌, ◌≢◌, ◌<◌, ◌≤◌, ◌^◌, ◌+◌, ◌*◌, ◌⊎◌, ℕ, Some, None, List, [], length, replicate, slice_set, slice_index, vec_capacity, IfOk, IfSome, IfNone, IsSomeAnd};
 ghost use Rattle.search_queue.specs.Keys.{key_at};
 ghost use Rattle.search_queue.specs.Heaps.{item_at, rank, place_of, keys_of, IsBelow, IsHoled, MayRise, MaySink, IsHeap};
 
@@ -146,20 +146,34 @@ impl Heap {
         ensures least { IfSome result (λ child. (other : ℕ) → IsBelow at other → other < length self.now.items.items → rank self.now.items.items child ≤ rank self.now.items.items other) }
     {
         let first = 4 * at + 1;
-        let end = self.items.len().min(first + 4);
-        if first >= end {
+        let count = self.items.len();
+        if first >= count {
             return None;
         }
+        if first + 3 < count {
+            let lower = self.lesser(first, first + 1);
+            let upper = self.lesser(first + 2, first + 3);
+            return Some(self.lesser(lower, upper));
+        }
         let mut least = first;
-        let mut key = self.items[first].key;
-        for child in first + 1..end {
-            let other = self.items[child].key;
-            if other < key {
-                least = child;
-                key = other;
-            }
+        for child in first + 1..count {
+            least = self.lesser(least, child);
         }
         Some(least)
+    }
+
+    /// The place of the lesser of two items.
+    fn lesser(&self, one: usize, other: usize) -> usize
+        requires one { one < length self.now.items.items }
+        requires other { other < length self.now.items.items }
+        ensures either { (result ≡ one) ⊎ (result ≡ other) }
+        ensures first { rank self.now.items.items result ≤ rank self.now.items.items one }
+        ensures second { rank self.now.items.items result ≤ rank self.now.items.items other }
+    {
+        if self.items[other].key < self.items[one].key {
+            return other;
+        }
+        one
     }
 
     /// Puts an item at a place.

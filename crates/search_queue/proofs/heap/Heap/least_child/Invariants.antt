@@ -1,4 +1,4 @@
-use Rattle.std.proofs.Common.{◌≡◌, ◌<◌, ◌≤◌, ℕ}
+use Rattle.std.proofs.Common.{◌<◌, ◌≤◌, ℕ}
 use Rattle.search_queue.specs.Heaps.{rank}
 use Rattle.search_queue.proofs.heap.Heap.least_child.Given as goal
 
@@ -7,6 +7,5 @@ abbrev pub invariant-loop-child : goal.invariant-loop-child
 invariant-loop-child l = record {
   first : l.first ≤ l.least;
   within : l.least < l.child;
-  key : l.key ≡ rank l.self.items.items l.least;
   least : (other : ℕ) → l.first ≤ other → other < l.child → rank l.self.items.items l.least ≤ rank l.self.items.items other;
 }
