@@ -1,7 +1,7 @@
-use Rattle.std.proofs.Common.{◌<◌, ◌≤◌, [], is_some, sym, ap, subst, ◌∙◌, arith}
+use Rattle.std.proofs.Common.{◌<◌, ◌≤◌, [], is_some, sym, ap, ◌∙◌, arith}
 use Rattle.std.specs.Prelude.{⊤}
 use Rattle.alt_search.proofs.Finish.{least_at_target, none_left}
-use Rattle.alt_search.proofs.Showing.{shown_least, shown_none}
+use Rattle.alt_search.proofs.Showing.{shown_at_once, shown_least, shown_none}
 use Rattle.alt_search.proofs.Starts.{starts_at_target, starts_at_end, starts_once, starts_nowhere, none_from_target}
 use Rattle.alt_search.proofs.Trees.{chain_of}
 use Rattle.alt_search.proofs.finding.search.Goals as goal
@@ -16,6 +16,10 @@ returns-then-start-target-clause-once g c =
 pub returns-then-start-target-clause-within : goal.returns-then-start-target-clause-within
 returns-then-start-target-clause-within g c = λ f.
     starts_nowhere (g.V.RoadView.network c.args.view.now) (g.P.Potential.bound c.args.potential.now) c.args.start.0 c.args.target.0 (λ sum. sum ≤ 0) (λ sum. sum < 0) (λ _ less. omega arith)
+
+pub returns-then-start-target-clause-shown : goal.returns-then-start-target-clause-shown
+returns-then-start-target-clause-shown g c = λ f.
+    shown_at_once (g.V.RoadView.network c.args.view.now) (g.P.Potential.bound c.args.potential.now) c.args.start.0 c.args.target.0
 
 pub returns-then-not-end-clause-none : goal.returns-then-not-end-clause-none
 returns-then-not-end-clause-none g c = λ f.
