@@ -1,8 +1,10 @@
 -- Where a search stopped, what it knows of weights is evidence.
-use Rattle.std.proofs.Common.{◌≡◌, ℕ, ◌<◌, Bool, true, false, Option, Some, None, List, is_some, ap, ◌∙◌}
+use Rattle.std.proofs.Common.{◌≡◌, ℕ, ◌+◌, ◌-◌, ◌<◌, Bool, true, false, Option, Some, None, List, is_some, refl, ap, ◌∙◌, inl, arith}
+use Rattle.std.specs.Prelude.{MatchOption}
+use Rattle.std.proofs.lemmas.Bool.{le-ltb}
 use Rattle.gh_base.specs.Networks.{Network, LeadsToNodes}
 use Rattle.walk_rules.specs.Potentials.{IsFeasible}
-use Rattle.walk_rules.specs.Evidence.{IsShownLeast, IsShownNone}
+use Rattle.walk_rules.specs.Evidence.{is_violated, IsLesser, IsShownLeast, IsShownNone}
 use Rattle.walk_rules.proofs.Labelling.{told_shows_least}
 use Rattle.walk_rules.proofs.Closing.{told_shows_none}
 use Rattle.search_queue.specs.Keys.{key_at}
@@ -29,3 +31,18 @@ module _ {network : Network} {bound : ℕ → Option ℕ} {start target settled 
   shown_none stopped =
       let bounded = ap is_some f.at_target in
       told_shows_none leads s t f.along bounded (tells_least at_target d f.along) (none_left d.underway (d.in_order f.along).ordered f.along bounded (rw stopped at d.stops).0)
+
+-- from a node to itself the labels that are 0 everywhere show it
+pub shown_at_once : (network : Network) (bound : ℕ → Option ℕ) (start target : ℕ) → IsShownLeast network bound start target 0
+shown_at_once network bound start target = record {
+  label = λ node. Some 0;
+  each = λ node l. right node (bound node);
+  evidence = record { at_start = refl; at_target = refl; along = λ node hop c. kept hop.weight };
+} where
+  right : (node : ℕ) (left : Option ℕ) → MatchOption left (◌≡◌ {A = Option ℕ} (Some 0) (Some 0)) (λ x. (y : ℕ) × (◌≡◌ {A = Option ℕ} (Some 0) (Some y)) × IsLesser network start node (0 - x) y)
+  right node None = refl
+  right node (Some x) = (0, refl, record { within = omega arith; below = λ hops walk. omega arith; met = inl (omega arith) })
+
+  kept : (weight : Option ℕ) → is_violated (Some 0) weight (Some 0) ≡ false
+  kept None = refl
+  kept (Some x) = le-ltb (0 + x) 0 (omega arith)

@@ -1,5 +1,5 @@
 -- At which nodes a search was started.
-use Rattle.std.proofs.Common.{◌≡◌, ℕ, ◌+◌, ◌<◌, ◌≤◌, true, subst, Option, Some, None, List, [], zero, suc, refl, ap, ◌∙◌, inl, inr, arith}
+use Rattle.std.proofs.Common.{◌≡◌, ℕ, ◌+◌, ◌<◌, ◌≤◌, true, false, subst, sym, Option, Some, None, List, [], zero, suc, refl, ap, ◌∙◌, inl, inr, arith}
 use Rattle.std.specs.Prelude.{⊤}
 use Rattle.alt_search.specs.declared.reach.Reach.{Reach}
 use Rattle.gh_base.specs.Networks.{Network}
@@ -97,3 +97,12 @@ none_from_target {network} {bound} {start} {target} {settled} {reached} {keys} w
       | inl p ↦ absurd (let s = settled_true reached keys i p in let f = start_settled w.tree s.0.depth i s.0 s.1 refl in w.target_open f.0 (subst (λ (v : ℕ). IsSettled reached keys v f.0) same f.1))
       | inr e ↦ e
     ])
+
+-- from a node to itself it starts nowhere
+pub starts_nowhere : (network : Network) (bound : ℕ → Option ℕ) (start target : ℕ) (May Must : ℕ → Type 0) → ((sum : ℕ) → Must sum → ⊥) → StartsAt network bound start target May Must 0
+starts_nowhere network bound start target May Must never = record {
+  passes = λ node. false;
+  count = sym (count_below-none (λ node. false) network.nodes (λ node. refl));
+  only = λ node e. absurd (cc);
+  each = λ node c. absurd (never (weight_of c.hops + c.left) c.sum);
+}

@@ -1,7 +1,7 @@
 -- A search between two steps.
-use Rattle.std.proofs.Common.{◌≡◌, ◌≢◌, ℕ, ◌+◌, ◌<◌, ◌≤◌, true, false, not, ◌&&◌, Option, Some, None, List, length, is_some, Contains, get_or, sym, ap, ◌∙◌, inl, inr, arith}
+use Rattle.std.proofs.Common.{◌≡◌, ◌≢◌, ℕ, ◌+◌, ◌<◌, ◌≤◌, true, false, not, ◌&&◌, Option, Some, None, List, length, is_some, Contains, sym, ap, ◌∙◌, inl, inr, arith}
 use Rattle.std.specs.Prelude.{slice_set}
-use Rattle.std.proofs.lemmas.List.{get_or-set_other, get_or_read, length-set}
+use Rattle.std.proofs.lemmas.List.{get_or-set_other, length-set}
 use Rattle.std.proofs.lemmas.Bool.{and_parts, cases_Bool}
 use Rattle.gh_base.specs.declared.edges.Hop.{Hop}
 use Rattle.gh_base.specs.declared.edges.NodeId.{NodeId}
@@ -16,14 +16,6 @@ use Rattle.walk_rules.proofs.Counting.{count_below-same, count_below-one_more}
 use Rattle.alt_search.proofs.Settle.{settle_tree}
 use Rattle.alt_search.proofs.Relax.{relax_tree, relax_reached, relax_settled, relax_unsettled, relax_long}
 use Rattle.walk_rules.proofs.Options.{some_of}
-
--- an open node is within both lists
-pub in_both : {network : Network} {bound : ℕ → Option ℕ} {start target settled : ℕ} {reached : List (Option Reach)} {keys : List (Option ℕ)} {u key : ℕ} → IsUnderway network bound start target settled reached keys → key_at keys u ≡ Some key → u < length reached
-in_both {keys} {u} {key} w k = omega (arith, within keys u key k, w.long_keys, w.long_reached)
-
--- what a read gives
-pub read_at : (xs : List (Option Reach)) (i : ℕ) (read : Option Reach) (reach : Reach) → i < length xs → read ≡ get_or xs i read → read ≡ Some reach → reach_at xs i ≡ Some reach
-read_at xs i read reach l e s = sym (get_or_read xs i read l e None) ∙ s
 
 -- the test says what is settled
 pub settled_true : (reached : List (Option Reach)) (keys : List (Option ℕ)) (v : ℕ) → is_settled reached keys v ≡ true → (reach : Reach) × IsSettled reached keys v reach

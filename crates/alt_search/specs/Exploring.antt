@@ -12,8 +12,8 @@ told (Some reach) None = Some reach.weight
 told (Some reach) (Some key) = None
 
 abbrev pub weight_in : Explored → ℕ → Option ℕ
-weight_in explored node = told (reach_at explored.reached.items node) (key_at explored.queue node)
+weight_in explored node = told (reach_at explored.reached node) (key_at explored.queue node)
 
 -- for how many nodes it was made
 abbrev pub nodes_in : Explored → ℕ
-nodes_in explored = length explored.reached.items
+nodes_in explored = length explored.reached

@@ -1,4 +1,5 @@
 pub mod Progress
 pub mod Findings
 pub mod Exploring
+pub mod Kept
 pub mod Rows

@@ -29,13 +29,17 @@ pub record Extends (network : Network) (reached : List (Option Reach)) (keys : L
   pub weight : reach.weight ≡ before.weight + cost step.hop
   pub depth : reach.depth ≡ before.depth + 1
 
+-- each key is that of a node that was reached: its walk's weight and its bound
+abbrev pub AreQueued : (ℕ → Option ℕ) → List (Option Reach) → List (Option ℕ) → Type 0
+AreQueued bound reached keys = (node key : ℕ) → key_at keys node ≡ Some key → (reach : Reach) × (b : ℕ) × (reach_at reached node ≡ Some reach) × (bound node ≡ Some b) × (key ≡ reach.weight + b)
+
 -- Each node that was reached has a walk; each key is that walk's weight and the node's bound.
 pub record IsTree (network : Network) (bound : ℕ → Option ℕ) (start settled : ℕ) (reached : List (Option Reach)) (keys : List (Option ℕ)) : Type 0 where
   pub root : (node : ℕ) (reach : Reach) → reach_at reached node ≡ Some reach → reach.last ≡ None → (node ≡ start) × (reach.weight ≡ 0) × (reach.depth ≡ 0)
   pub branch : (node : ℕ) (reach : Reach) (step : Step) → reach_at reached node ≡ Some reach → reach.last ≡ Some step → Extends network reached keys node reach step
   pub small : (node : ℕ) (reach : Reach) → reach_at reached node ≡ Some reach → (reach.depth ≤ settled) × (reach.weight ≤ 2 ^ 64 * reach.depth)
   pub bounded : (node : ℕ) (reach : Reach) → reach_at reached node ≡ Some reach → IsSome (bound node)
-  pub queued : (node key : ℕ) → key_at keys node ≡ Some key → (reach : Reach) × (b : ℕ) × (reach_at reached node ≡ Some reach) × (bound node ≡ Some b) × (key ≡ reach.weight + b)
+  pub queued : AreQueued bound reached keys
 
 -- how many hops a walk has, if there is one
 abbrev pub depth_of : Option Reach → ℕ

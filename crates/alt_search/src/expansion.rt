@@ -1,9 +1,9 @@
 //! The loop that all searches share.
 ghost use Rattle.std.specs.Prelude.{◌≡◌, ◌+◌, ◌-◌, ◌*◌, ◌^◌, ◌<◌, ◌≤◌, length, IfOk};
-ghost use Rattle.alt_search.specs.Progress.{Relaxes, IsDone};
+ghost use Rattle.alt_search.specs.Progress.{AreQueued, Relaxes, IsDone};
 
-use crate::places::empty_places;
-use crate::reach::{Reach, Step};
+use crate::reach::Reach;
+use crate::reached::Reached;
 use gh_base::{Hop, NoMemory, NodeId, Potential, RoadView};
 use search_queue::Queue;
 use std::alloc::Global;
@@ -11,7 +11,7 @@ use std::alloc::Global;
 /// What is known of each node, which nodes are open, and where the search stopped.
 #[derive(Drop)]
 pub struct Expansion {
-    pub reached: Vec<Option<Reach>>,
+    pub reached: Reached,
     pub queue: Queue,
     pub settled: u32,
     pub at_target: bool,
@@ -32,18 +32,14 @@ pub fn expand<V: RoadView, P: Potential>(
     ensures rise { V.starts view.new ≤ V.starts view.old + (V.network view.old).nodes }
     ensures few { IfOk result (λ _. (V.network view.old).nodes < 2 ^ 32) }
     ensures done { IfOk result (λ end. IsDone (V.network view.old) (P.bound potential.now) start.0 target.0
-        end.settled end.reached.items end.queue end.at_target) }
+        end.settled end.reached end.queue end.at_target) }
 {
     let count = view.node_count();
-    let mut reached: Vec<Option<Reach>> = empty_places(alloc, count)?;
+    let mut reached = Reached::new(alloc, count)?;
     let mut queue = Queue::new(alloc, count)?;
     let mut settled: u32 = 0;
     if let Some(bound) = potential.at(start) {
-        reached[start.0 as usize] = Some(Reach {
-            weight: 0,
-            depth: 0,
-            last: None,
-        });
+        reached.begin(start);
         queue.put(start, u128::from(bound));
     }
     'nodes: while let Some((node, _key)) = queue.pop_least() {
@@ -55,7 +51,7 @@ pub fn expand<V: RoadView, P: Potential>(
                 at_target: true,
             });
         }
-        let Some(from) = reached[node.0 as usize] else {
+        let Some(from) = reached.reach(node) else {
             unreachable!()
         };
         view.start_at(node);
@@ -72,9 +68,10 @@ pub fn expand<V: RoadView, P: Potential>(
     })
 }
 
-/// Takes a hop of a settled node into account.
+/// Takes a hop of a settled node into account. The potential is asked only of a head that is reached for
+/// the first time: the key of an open node is its walk's weight and its bound.
 fn relax<P: Potential>(
-    reached: &mut [Option<Reach>],
+    reached: &mut Reached,
     queue: &mut Queue,
     potential: &P,
     tail: NodeId,
@@ -83,31 +80,26 @@ fn relax<P: Potential>(
 )
     requires reached { hop.to.0 < length reached.old }
     requires keys { hop.to.0 < length queue.old }
+    requires queued { AreQueued (P.bound potential.now) reached.old queue.old }
     requires depth { from.depth < 2 ^ 32 - 1 }
     requires weight { from.weight ≤ 2 ^ 64 * from.depth }
     ensures { Relaxes (P.bound potential.now) tail from hop reached.old queue.old reached.new queue.new }
 {
     let Some(weight) = hop.weight else { return };
-    let Some(bound) = potential.at(hop.to) else {
-        return
-    };
-    let head = hop.to.0 as usize;
     let total = from.weight + u128::from(weight);
-    let key = total + u128::from(bound);
-    if let Some(known) = queue.key_of(hop.to) {
-        if known <= key {
+    if let Some(known) = reached.weight(hop.to) {
+        if known <= total {
             return;
         }
-        queue.lower(hop.to, key);
+        let Some(key) = queue.key_of(hop.to) else {
+            return
+        };
+        queue.lower(hop.to, key - known + total);
     } else {
-        if reached[head].is_some() {
-            return;
-        }
-        queue.put(hop.to, key);
+        let Some(bound) = potential.at(hop.to) else {
+            return
+        };
+        queue.put(hop.to, total + u128::from(bound));
     }
-    reached[head] = Some(Reach {
-        weight: total,
-        depth: from.depth + 1,
-        last: Some(Step { tail, hop }),
-    });
+    reached.extend(total, from.depth + 1, tail, hop);
 }

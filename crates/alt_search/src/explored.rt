@@ -2,17 +2,17 @@
 ghost use Rattle.std.specs.Prelude.{◌≡◌, length};
 
 use crate::expansion::Expansion;
-use crate::reach::Reach;
+use crate::reached::Reached;
 use gh_base::NodeId;
 use search_queue::Queue;
 
 /// What an exploration from a node tells: of each node the weight of a least walk in ms, or nothing.
 #[derive(Drop)]
 pub struct Explored {
-    reached: Vec<Option<Reach>>,
+    reached: Reached,
     queue: Queue,
     settled: u32,
-    ghost same: { length queue ≡ length reached.items },
+    ghost same: { length queue ≡ length reached },
 }
 
 impl Explored {
@@ -21,7 +21,7 @@ impl Explored {
 
     /// What is known at the end of an expansion.
     pub(crate) fn after(end: Expansion) -> Explored
-        requires { length end.queue ≡ length end.reached.items }
+        requires { length end.queue ≡ length end.reached }
         ensures reached { result.reached ≡ end.reached }
         ensures queue { result.queue ≡ end.queue }
         ensures settled { result.settled ≡ end.settled }
@@ -38,11 +38,11 @@ impl Explored {
         requires { node.0 < nodes_in self.now }
         ensures { result ≡ weight_in self.now node.0 }
     {
-        let reach = self.reached[node.0 as usize]?;
+        let weight = self.reached.weight(node)?;
         if self.queue.key_of(node).is_some() {
             return None;
         }
-        Some(reach.weight)
+        Some(weight)
     }
 
     /// Whether a weight is told of a node.

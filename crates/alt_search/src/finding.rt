@@ -91,6 +91,13 @@ pub fn search<V: RoadView, P: Potential>(
     ensures long { IfOk result (λ found. IfWalk found (λ hops _ settled. length hops ≤ settled)) }
     ensures here { start.0 ≡ target.0 → IfOk result (λ found. settled_of found ≡ 0) }
 {
+    if start.0 == target.0 {
+        return Ok(Found::Walk {
+            hops: Hops::from_vec(Vec::new(alloc)),
+            weight: 0,
+            settled: 0,
+        });
+    }
     let end = expand(alloc, view, potential, start, target)?;
     if !end.at_target {
         return Ok(Found::NoWalk {

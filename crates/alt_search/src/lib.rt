@@ -12,9 +12,9 @@ mod expansion;
 mod explored;
 mod exploring;
 mod finding;
-mod places;
 mod potential;
 mod reach;
+mod reached;
 mod tracing;
 
 pub use adjacency::{Adjacency, lead_to_rows};

@@ -5,12 +5,13 @@ ghost use Rattle.walk_rules.specs.Walks.{IsWalk, weight_of};
 ghost use Rattle.alt_search.specs.declared.reach.Reach.{Reach};
 ghost use Rattle.alt_search.specs.Progress.{reach_at, IsTree, IsChain};
 
-use crate::reach::{Reach, Step};
+use crate::reach::Step;
+use crate::reached::Reached;
 use gh_base::{Hops, NoMemory, NodeId};
 use std::alloc::Global;
 
 /// The walk of a node that was reached.
-pub fn walk_to(alloc: Global, reached: &[Option<Reach>], target: NodeId) -> Result<Hops, NoMemory>
+pub fn walk_to(alloc: Global, reached: &Reached, target: NodeId) -> Result<Hops, NoMemory>
     requires target { IsSome (reach_at reached.now target.0) }
     requires chain { IsChain reached.now }
     ensures { IfOk result (λ hops. (network : Network) (bound : ℕ → Option ℕ) (start settled : ℕ) (keys : List (Option ℕ)) (reach : Reach) →
@@ -28,23 +29,23 @@ pub fn walk_to(alloc: Global, reached: &[Option<Reach>], target: NodeId) -> Resu
 }
 
 /// The last hop of a node's walk.
-fn last_step(reached: &[Option<Reach>], node: NodeId) -> Option<Step>
+fn last_step(reached: &Reached, node: NodeId) -> Option<Step>
     requires { IsSome (reach_at reached.now node.0) }
     ensures { (reach : Reach) → reach_at reached.now node.0 ≡ Some reach → result ≡ reach.last }
 {
-    match reached[node.0 as usize] {
+    match reached.reach(node) {
         Some(reach) => reach.last,
         None => unreachable!(),
     }
 }
 
 /// The weight of a node's walk.
-pub fn weight_at(reached: &[Option<Reach>], node: NodeId) -> u128
+pub fn weight_at(reached: &Reached, node: NodeId) -> u128
     requires { IsSome (reach_at reached.now node.0) }
     ensures { (reach : Reach) → reach_at reached.now node.0 ≡ Some reach → result ≡ reach.weight }
 {
-    match reached[node.0 as usize] {
-        Some(reach) => reach.weight,
+    match reached.weight(node) {
+        Some(weight) => weight,
         None => unreachable!(),
     }
 }

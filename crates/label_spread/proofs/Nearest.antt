@@ -24,7 +24,7 @@ told_none reach key e = ap (λ (r : Option Reach). told r key) e
 
 -- nothing is told of what is no node
 pub none_past : (explored : Explored) (node : ℕ) → nodes_in explored ≤ node → weight_in explored node ≡ None
-none_past explored node l = told_none (reach_at explored.reached.items node) _ (get_or_past explored.reached.items node None l)
+none_past explored node l = told_none (reach_at explored.reached node) _ (get_or_past explored.reached node None l)
 
 -- labels that are the weights, cut at the limit
 pub labels_right : (network : Network) (limit from : ℕ) (explored : Explored) (labels : List (Option ℕ)) → length labels ≡ nodes_in explored → ((node : ℕ) → node < nodes_in explored → label_at labels node ≡ cut limit (weight_in explored node)) → ((node : ℕ) → IsReach network from node (weight_in explored node)) → (node : ℕ) → IsLabel network limit from node (label_at labels node)

@@ -40,7 +40,7 @@ near_explored network s explored list long each reach node =
     let same : distance_at list node ≡ weight_in explored node =
     elim (cases_lt node (nodes_in explored)) [
       | inl l ↦ each node l
-      | inr p ↦ get_or_past list node None (omega arith) ∙ sym (told_none (reach_at explored.reached.items node) _ (get_or_past explored.reached.items node None p))
+      | inr p ↦ get_or_past list node None (omega arith) ∙ sym (told_none (reach_at explored.reached node) _ (get_or_past explored.reached node None p))
     ] in
     subst (λ (d : Option ℕ). IsNear network (s ∷ []) node d) (sym same) (near_one network s node (weight_in explored node) (reach node))
 

@@ -1,70 +1,106 @@
--- In a heap the least stands first, and a lowered key may rise.
-use Rattle.std.proofs.Common.{◌≡◌, ◌≢◌, ℕ, ◌/◌, ◌<◌, ◌≤◌, Option, Some, None, unwrap_or, IsSome, IsSomeAnd, List, length, zero, suc, ap, arith, refl, ◌∙◌, inl, inr}
-use Rattle.std.specs.Prelude.{slice_set}
+-- The order of a heap, where a free place moves up or down or is filled.
+use Rattle.std.proofs.Common.{◌≡◌, ◌≢◌, ℕ, ◌/◌, ◌<◌, ◌≤◌, zero, suc, ap, inl, inr, arith}
 use Rattle.std.proofs.lemmas.Bool.{cases_eq}
-use Rattle.std.proofs.lemmas.List.{get_or-set_same, get_or-set_other}
-use Rattle.search_queue.specs.declared.heap.Heap.{Heap}
-use Rattle.search_queue.specs.Heaps.{node_at, place_of, rank, IsBelow, AreOrdered, MayRise, IsHeap}
-use Rattle.search_queue.specs.Keys.{key_at}
-use Rattle.search_queue.proofs.Places.{within}
+use Rattle.search_queue.specs.Heaps.{IsBelow, AreOrdered, MayRise, MaySink}
 
-least_first : (count : ℕ) (r : ℕ → ℕ) → AreOrdered count r → (at : ℕ) → at < count → r 0 ≤ r at
+-- no rank is below the first
+pub least_first : (count : ℕ) (r : ℕ → ℕ) → AreOrdered count r → (at : ℕ) → at < count → r 0 ≤ r at
 least_first count r o at l = up at at (omega arith) l where
   -- by induction on the place, since the place above has a smaller number
   up : (fuel at : ℕ) → at ≤ fuel → at < count → r 0 ≤ r at
   up zero at f l = let e : at ≡ 0 = omega arith in let same : r at ≡ r 0 = ap r e in omega arith
   up (suc fuel) zero f l = omega arith
   up (suc fuel) (suc at) f l =
-      let parent = at / 2 in
+      let parent = at / 4 in
       let below : IsBelow parent (suc at) = record { first = omega arith; last = omega arith } in
       let step : r parent ≤ r (suc at) = o parent (suc at) below l in
       let rest : r 0 ≤ r parent = up fuel parent (omega arith) (omega arith) in
       omega arith
 
--- no key is below that of the first node
-pub first_is_least : (keys : List (Option ℕ)) (heap : Heap) (least : ℕ) → IsHeap keys heap → key_at keys (node_at heap 0) ≡ Some least → (node key : ℕ) → key_at keys node ≡ Some key → least ≤ key
-first_is_least keys heap least h e node key k =
-    let l : node < length keys = within keys node key k in
-    let some : IsSome (key_at keys node) = rw k refl in
-    let at : place_of heap node < heap.count = (h.holds node l).0 some in
-    let back : node_at heap (place_of heap node) ≡ node = h.whole.paired.node_place node l in
-    let there : rank keys heap (place_of heap node) ≡ key = rw (back, k) refl in
-    let here : rank keys heap 0 ≡ least = rw e refl in
-    let up : rank keys heap 0 ≤ rank keys heap (place_of heap node) = least_first heap.count (rank keys heap) h.ordered (place_of heap node) at in
-    omega arith
+-- a place is right below one place alone
+one_above : {one other child : ℕ} → IsBelow one child → IsBelow other child → one ≡ other
+one_above a b = omega (arith, a.first, a.last, b.first, b.last)
 
--- a node whose key was lowered may rise
-pub lowered_may_rise : (keys : List (Option ℕ)) (heap : Heap) (node key at : ℕ) → IsHeap keys heap → node < length keys → at ≡ place_of heap node → IsSomeAnd (key_at keys node) (λ k. key ≤ k) → MayRise heap.count (rank (slice_set keys node (Some key)) heap) at
-lowered_may_rise keys heap node key at h l e less = record {
-  others = λ parent child below inside other.
-      let c = kept child inside other in
-      let p = no_more parent (omega arith) in
-      let old = h.ordered parent child below inside in
-      omega arith;
-  across = λ parent child above below inside.
-      let c = kept child inside (omega arith) in
-      let p = kept parent (omega arith) (omega arith) in
-      let first = h.ordered parent at above (omega arith) in
-      let second = h.ordered at child below inside in
-      omega arith;
-} where
-  -- the keys of other nodes stay
-  kept : (other : ℕ) → other < heap.count → other ≢ at → rank (slice_set keys node (Some key)) heap other ≡ rank keys heap other
-  kept other inside ne =
-      let apart : node_at heap other ≢ node = λ same. let there = h.whole.paired.place_node other (let w = h.whole.within in omega arith) in let here = ap (place_of heap) same in omega arith in
-      ap (λ k. unwrap_or k 0) (get_or-set_other keys node (node_at heap other) (Some key) None apart)
+module _ {count : ℕ} {r r' : ℕ → ℕ} {hole key : ℕ} (filled : (at : ℕ) → at ≢ hole → r' at ≡ r at) where
+  pub rise_step : (parent : ℕ) → MayRise count r hole key → IsBelow parent hole → hole < count → r' hole ≡ r parent → key < r parent → MayRise count r' parent key
+  rise_step parent m above inside here less = record {
+    others = λ p child b i np nc. elim (cases_eq child hole) [
+      | inl e ↦ absurd (np (one_above b (let same = e in record { first = omega (arith, above.first); last = omega (arith, above.last) })))
+      | inr ne ↦ elim (cases_eq p hole) [
+        | inl e ↦
+            let a = m.across parent child above (record { first = omega (arith, b.first); last = omega (arith, b.last) }) i in
+            let x = ap r' e in
+            omega (arith, filled child ne)
+        | inr d ↦ omega (arith, filled child ne, filled p d, m.others p child b i d ne)
+      ]
+    ];
+    across = λ p child b d i.
+        let up : p ≢ hole = omega (arith, b.first, above.first) in
+        let first = m.others p parent b (omega (arith, above.first)) up (omega (arith, above.first)) in
+        elim (cases_eq child hole) [
+          | inl e ↦ let x = ap r' e in omega (arith, filled p up)
+          | inr ne ↦ omega (arith, filled p up, filled child ne, m.others parent child d i (omega (arith, above.first)) ne)
+        ];
+    below = λ child d i. elim (cases_eq child hole) [
+      | inl e ↦ let x = ap r' e in omega arith
+      | inr ne ↦ omega (arith, filled child ne, m.others parent child d i (omega (arith, above.first)) ne)
+    ];
+  }
 
-  greater : (old : Option ℕ) → IsSomeAnd old (λ k. key ≤ k) → key ≤ unwrap_or old 0
-  greater (Some old) g = g
-  greater None g = absurd g
-
-  no_more : (other : ℕ) → other < heap.count → rank (slice_set keys node (Some key)) heap other ≤ rank keys heap other
-  no_more other inside = elim (cases_eq other at) [
-    | inr ne ↦ let same = kept other inside ne in omega arith
-    | inl same ↦
-        let back : node_at heap other ≡ node = ap (node_at heap) (same ∙ e) ∙ h.whole.paired.node_place node l in
-        let new : rank (slice_set keys node (Some key)) heap other ≡ key = rw (back, get_or-set_same keys node (Some key) None l) refl in
-        let old : rank keys heap other ≡ unwrap_or (key_at keys node) 0 = ap (λ n. unwrap_or (key_at keys n) 0) back in
-        let g = greater (key_at keys node) less in
+  pub rise_end : MayRise count r hole key → r' hole ≡ key → ((parent : ℕ) → IsBelow parent hole → r parent ≤ key) → AreOrdered count r'
+  rise_end m here stop parent child b i = elim (cases_eq child hole) [
+    | inl e ↦
+        let x = ap r' e in
+        let s = stop parent (record { first = omega (arith, b.first); last = omega (arith, b.last) }) in
+        let f = filled parent (omega (arith, b.first)) in
         omega arith
+    | inr ne ↦ elim (cases_eq parent hole) [
+      | inl e ↦
+          let x = ap r' e in
+          let s = m.below child (record { first = omega (arith, b.first); last = omega (arith, b.last) }) i in
+          omega (arith, filled child ne)
+      | inr d ↦ omega (arith, filled child ne, filled parent d, m.others parent child b i d ne)
+    ]
+  ]
+
+  pub sink_step : (below : ℕ) → MaySink count r hole key → IsBelow hole below → below < count → ((other : ℕ) → IsBelow hole other → other < count → r below ≤ r other) → r' hole ≡ r below → r below < key → MaySink count r' below key
+  sink_step below m under inside least here less = record {
+    others = λ p child b i np nc. elim (cases_eq p hole) [
+      | inl e ↦
+          let x = ap r' e in
+          let s = least child (record { first = omega (arith, b.first); last = omega (arith, b.last) }) i in
+          omega (arith, filled child (omega (arith, b.first)))
+      | inr d ↦ elim (cases_eq child hole) [
+        | inl e ↦
+            let x = ap r' e in
+            let s = m.across p below (record { first = omega (arith, b.first); last = omega (arith, b.last) }) under inside in
+            omega (arith, filled p d)
+        | inr ne ↦ omega (arith, filled child ne, filled p d, m.others p child b i d ne)
+      ]
+    ];
+    across = λ p child b d i.
+        let same : p ≡ hole = one_above b under in
+        let x = ap r' same in
+        let s = m.others below child d i (omega (arith, under.first)) (omega (arith, under.first, d.first)) in
+        omega (arith, filled child (omega (arith, under.first, d.first)));
+    above = λ p b.
+        let same : p ≡ hole = one_above b under in
+        let x = ap r' same in
+        omega arith;
+  }
+
+  pub sink_end : MaySink count r hole key → r' hole ≡ key → ((child : ℕ) → IsBelow hole child → child < count → key ≤ r child) → AreOrdered count r'
+  sink_end m here stop parent child b i = elim (cases_eq child hole) [
+    | inl e ↦
+        let x = ap r' e in
+        let s = m.above parent (record { first = omega (arith, b.first); last = omega (arith, b.last) }) in
+        let f = filled parent (omega (arith, b.first)) in
+        omega arith
+    | inr ne ↦ elim (cases_eq parent hole) [
+      | inl e ↦
+          let x = ap r' e in
+          let s = stop child (record { first = omega (arith, b.first); last = omega (arith, b.last) }) i in
+          omega (arith, filled child ne)
+      | inr d ↦ omega (arith, filled child ne, filled parent d, m.others parent child b i d ne)
+    ]
   ]

@@ -1,183 +1,191 @@
-//! The heap: an order of the nodes, and each node's place in it.
-ghost use Rattle.std.specs.Prelude.{◌≡◌, ◌<◌, ◌≤◌, ◌^◌, ◌+◌, ℕ, Option, List, length, IfOk, IfSome, IfNone, ◌*◌, slice_index};
-ghost use Rattle.search_queue.specs.Heaps.{node_at, place_of, rank, IsWhole, Holds, IsBelow, AreOrdered, MayRise, MaySink, AreSwapped};
+//! The heap: nodes with their keys in an order, and for each node its place there.
+ghost use Rattle.std.specs.Prelude.{◌≡◌, ◌≢◌, ◌<◌, ◌≤◌, ◌^◌, ◌+◌, ◌*◌, ◌⊎◌, ℕ, Some, None, List, [], length, replicate, slice_set, slice_index, vec_capacity, IfOk, IfSome, IfNone, IsSomeAnd};
+ghost use Rattle.search_queue.specs.Keys.{key_at};
+ghost use Rattle.search_queue.specs.Heaps.{item_at, rank, place_of, keys_of, IsBelow, IsHoled, MayRise, MaySink, IsHeap};
 
+use crate::node_table::NodeTable;
 use gh_base::NoMemory;
 use std::alloc::Global;
 
-/// All nodes in an order. The first `count` places are the heap: the places right below `at` are
-/// `2 * at + 1` and `2 * at + 2`.
+/// A node in the heap, with its key.
+#[derive(Clone, Copy)]
+pub struct Item {
+    pub key: u128,
+    pub node: u32,
+}
+
+/// The places right below `at` are `4 * at + 1` to `4 * at + 4`. A node's place is kept plus 1, and 0 for
+/// a node that isn't in the heap.
 #[derive(Drop)]
 pub struct Heap {
-    nodes: Vec<u32>,
-    places: Vec<u32>,
-    count: usize,
+    items: Vec<Item>,
+    places: NodeTable,
 }
 
 impl Heap {
-    /// All nodes, none of them in the heap.
+    /// An empty heap for so many nodes.
     pub fn new(alloc: Global, nodes: u32) -> Result<Heap, NoMemory>
-        ensures whole { IfOk result (λ heap. IsWhole nodes heap) }
-        ensures empty { IfOk result (λ heap. heap.count ≡ 0) }
+        ensures heap { IfOk result (λ heap. IsHeap heap) }
+        ensures empty { IfOk result (λ heap. keys_of heap ≡ replicate nodes None) }
     {
         Ok(Heap {
-            nodes: numbers(alloc, nodes)?,
-            places: numbers(alloc, nodes)?,
-            count: 0,
+            items: Vec::with_capacity(alloc, nodes as usize)?,
+            places: NodeTable::new(alloc, nodes)?,
         })
     }
 
-    /// The first node, or None if none is in the heap.
-    pub fn first(&self) -> Option<u32>
-        requires { self.now.count ≤ length self.now.nodes.items }
-        ensures some { IfSome result (λ node. node ≡ node_at self.now 0) }
-        ensures within { IfSome result (λ _. 0 < self.now.count) }
-        ensures none { IfNone result (self.now.count ≡ 0) }
+    /// The key of a node, or None for one that isn't in the heap.
+    pub fn key(&self, node: u32) -> Option<u128>
+        requires heap { IsHeap self.now }
+        requires node { node < length self.now.places }
+        ensures { result ≡ key_at (keys_of self.now) node }
     {
-        if self.count == 0 {
+        let place = self.places.get(node);
+        if place == 0 {
             return None;
         }
-        Some(self.nodes[0])
+        Some(self.items[place as usize - 1].key)
     }
 
-    /// The last place of the heap.
-    pub fn last(&self) -> usize
-        requires { 0 < self.now.count }
-        ensures { result + 1 ≡ self.now.count }
+    /// Takes in a node that isn't in the heap.
+    pub fn enter(&mut self, item: Item)
+        requires heap { IsHeap self.old }
+        requires node { item.node < length self.old.places }
+        requires absent { key_at (keys_of self.old) item.node ≡ None }
+        ensures heap { IsHeap self.new }
+        ensures keys { keys_of self.new ≡ slice_set (keys_of self.old) item.node (Some item.key) }
     {
-        self.count - 1
+        let last = self.items.len();
+        self.items.push_reserved(item);
+        self.rise(last, item);
     }
 
-    /// The place of a node.
-    pub fn place(&self, node: u32) -> usize
-        requires { node < length self.now.places.items }
-        ensures { result ≡ place_of self.now node }
+    /// Gives a node of the heap a key that is no greater than its own.
+    pub fn lower(&mut self, item: Item)
+        requires heap { IsHeap self.old }
+        requires node { item.node < length self.old.places }
+        requires present { IsSomeAnd (key_at (keys_of self.old) item.node) (λ k. item.key ≤ k) }
+        ensures heap { IsHeap self.new }
+        ensures keys { keys_of self.new ≡ slice_set (keys_of self.old) item.node (Some item.key) }
     {
-        self.places[node as usize] as usize
+        let place = self.places.get(item.node);
+        self.rise(place as usize - 1, item);
     }
 
-    /// Takes a node that isn't in the heap into it, at its last place, where it may be too small.
-    pub fn enter(&mut self, node: u32)
-        requires whole { IsWhole (length self.old.nodes.items) self.old }
-        requires node { node < length self.old.nodes.items }
-        requires out { self.old.count ≤ place_of self.old node }
-        ensures whole { IsWhole (length self.old.nodes.items) self.new }
-        ensures count { self.new.count ≡ self.old.count + 1 }
-        ensures last { node_at self.new self.old.count ≡ node }
-        ensures others { (at : ℕ) → at < self.old.count → node_at self.new at ≡ node_at self.old at }
+    /// Takes out an item with a least key.
+    pub fn leave(&mut self) -> Option<Item>
+        requires heap { IsHeap self.old }
+        ensures heap { IsHeap self.new }
+        ensures none { IfNone result ((node : ℕ) → key_at (keys_of self.old) node ≡ None) }
+        ensures stays { IfNone result (keys_of self.new ≡ keys_of self.old) }
+        ensures found { IfSome result (λ item. key_at (keys_of self.old) item.node ≡ Some item.key) }
+        ensures least { IfSome result (λ item. (node key : ℕ) → key_at (keys_of self.old) node ≡ Some key → item.key ≤ key) }
+        ensures taken { IfSome result (λ item. keys_of self.new ≡ slice_set (keys_of self.old) item.node None) }
     {
-        let place = self.place(node);
-        self.swap(place, self.count);
-        self.count += 1;
+        let last = self.items.pop()?;
+        if self.items.len() == 0 {
+            self.places.set(last.node, 0);
+            return Some(last);
+        }
+        let first = self.items[0];
+        self.places.set(first.node, 0);
+        self.sink(last);
+        Some(first)
     }
 
-    /// Takes the first node out of the heap. The last one takes its place, where it may be too great.
-    pub fn leave(&mut self)
-        requires whole { IsWhole (length self.old.nodes.items) self.old }
-        requires count { 0 < self.old.count }
-        ensures whole { IsWhole (length self.old.nodes.items) self.new }
-        ensures count { self.new.count + 1 ≡ self.old.count }
-        ensures out { node_at self.new self.new.count ≡ node_at self.old 0 }
-        ensures others { (at : ℕ) → 0 < at → at < self.new.count → node_at self.new at ≡ node_at self.old at }
-        ensures first { node_at self.new 0 ≡ node_at self.old self.new.count }
-    {
-        self.count -= 1;
-        self.swap(0, self.count);
-    }
-
-    /// Lets the node at a place rise until it isn't too small.
-    pub fn rise(&mut self, keys: &[Option<u128>], start: usize)
-        requires whole { IsWhole (length keys.now) self.old }
-        requires start { start < self.old.count }
-        requires holds { Holds keys.now self.old }
-        requires order { MayRise self.old.count (rank keys.now self.old) start }
-        ensures whole { IsWhole (length keys.now) self.new }
-        ensures holds { Holds keys.now self.new }
-        ensures order { AreOrdered self.new.count (rank keys.now self.new) }
+    /// Lets an item rise from a place that is free until none above it is greater, and puts it there.
+    fn rise(&mut self, start: usize, item: Item)
+        requires holed { IsHoled self.old.items.items self.old.places start item.node }
+        requires room { length self.old.places ≤ vec_capacity self.old.items }
+        requires order { MayRise (length self.old.items.items) (rank self.old.items.items) start item.key }
+        ensures heap { IsHeap self.new }
+        ensures keys { keys_of self.new ≡ slice_set (keys_of self.old) item.node (Some item.key) }
     {
         let mut at = start;
         while at > 0 {
-            let parent = (at - 1) / 2;
-            if self.key(keys, parent) <= self.key(keys, at) {
+            let parent = (at - 1) / 4;
+            let above = self.items[parent];
+            if above.key <= item.key {
+                self.put(at, item);
                 return;
             }
-            self.swap(parent, at);
+            self.put(at, above);
             at = parent;
         }
+        self.put(at, item);
     }
 
-    /// Lets the node at a place sink until it isn't too great.
-    pub fn sink(&mut self, keys: &[Option<u128>], start: usize)
-        requires whole { IsWhole (length keys.now) self.old }
-        requires holds { Holds keys.now self.old }
-        requires order { MaySink self.old.count (rank keys.now self.old) start }
-        ensures whole { IsWhole (length keys.now) self.new }
-        ensures holds { Holds keys.now self.new }
-        ensures order { AreOrdered self.new.count (rank keys.now self.new) }
+    /// Lets an item sink from the first place, which is free, until none below it is less, and puts it there.
+    fn sink(&mut self, item: Item)
+        requires holed { IsHoled self.old.items.items self.old.places 0 item.node }
+        requires room { length self.old.places ≤ vec_capacity self.old.items }
+        requires order { MaySink (length self.old.items.items) (rank self.old.items.items) 0 item.key }
+        ensures heap { IsHeap self.new }
+        ensures keys { keys_of self.new ≡ slice_set (keys_of self.old) item.node (Some item.key) }
     {
-        let mut at = start;
-        while let Some(child) = self.lesser_child(keys, at) {
-            if self.key(keys, at) <= self.key(keys, child) {
+        let mut at = 0;
+        while let Some(child) = self.least_child(at) {
+            let below = self.items[child];
+            if item.key <= below.key {
+                self.put(at, item);
                 return;
             }
-            self.swap(at, child);
+            self.put(at, below);
             at = child;
         }
+        self.put(at, item);
     }
 
-    /// The place with the lesser key of the two right below.
-    fn lesser_child(&self, keys: &[Option<u128>], at: usize) -> Option<usize>
-        requires whole { IsWhole (length keys.now) self.now }
-        ensures none { IfNone result (self.now.count ≤ 2 * at + 1) }
+    /// The place with the least key of those right below.
+    fn least_child(&self, at: usize) -> Option<usize>
+        requires at { at < length self.now.items.items }
+        requires few { length self.now.items.items < 2 ^ 32 }
+        ensures none { IfNone result (length self.now.items.items ≤ 4 * at + 1) }
         ensures below { IfSome result (λ child. IsBelow at child) }
-        ensures within { IfSome result (λ child. child < self.now.count) }
-        ensures least { IfSome result (λ child. (other : ℕ) → IsBelow at other → other < self.now.count → rank keys.now self.now child ≤ rank keys.now self.now other) }
+        ensures within { IfSome result (λ child. child < length self.now.items.items) }
+        ensures least { IfSome result (λ child. (other : ℕ) → IsBelow at other → other < length self.now.items.items → rank self.now.items.items child ≤ rank self.now.items.items other) }
     {
-        if at >= self.count / 2 {
+        let first = 4 * at + 1;
+        let count = self.items.len();
+        if first >= count {
             return None;
         }
-        let left = 2 * at + 1;
-        let right = left + 1;
-        if right < self.count && self.key(keys, right) < self.key(keys, left) {
-            return Some(right);
+        if first + 3 < count {
+            let lower = self.lesser(first, first + 1);
+            let upper = self.lesser(first + 2, first + 3);
+            return Some(self.lesser(lower, upper));
         }
-        Some(left)
+        let mut least = first;
+        for child in first + 1..count {
+            least = self.lesser(least, child);
+        }
+        Some(least)
     }
 
-    /// The key of the node at a place.
-    fn key(&self, keys: &[Option<u128>], at: usize) -> u128
-        requires whole { IsWhole (length keys.now) self.now }
-        requires at { at < self.now.count }
-        ensures { result ≡ rank keys.now self.now at }
+    /// The place of the lesser of two items.
+    fn lesser(&self, one: usize, other: usize) -> usize
+        requires one { one < length self.now.items.items }
+        requires other { other < length self.now.items.items }
+        ensures either { (result ≡ one) ⊎ (result ≡ other) }
+        ensures first { rank self.now.items.items result ≤ rank self.now.items.items one }
+        ensures second { rank self.now.items.items result ≤ rank self.now.items.items other }
     {
-        keys[self.nodes[at] as usize].unwrap_or(0)
+        if self.items[other].key < self.items[one].key {
+            return other;
+        }
+        one
     }
 
-    fn swap(&mut self, first: usize, second: usize)
-        requires whole { IsWhole (length self.old.nodes.items) self.old }
-        requires first { first < length self.old.nodes.items }
-        requires second { second < length self.old.nodes.items }
-        ensures whole { IsWhole (length self.old.nodes.items) self.new }
-        ensures count { self.new.count ≡ self.old.count }
-        ensures nodes { AreSwapped first second (node_at self.old) (node_at self.new) }
+    /// Puts an item at a place.
+    fn put(&mut self, at: usize, item: Item)
+        requires at { at < length self.old.items.items }
+        requires few { length self.old.items.items < 2 ^ 32 }
+        requires node { item.node < length self.old.places }
+        ensures items { self.new.items.items ≡ slice_set self.old.items.items at item }
+        ensures places { self.new.places ≡ slice_set self.old.places item.node (at + 1) }
+        ensures capacity { vec_capacity self.new.items ≡ vec_capacity self.old.items }
     {
-        let here = self.nodes[first];
-        let there = self.nodes[second];
-        self.nodes[first] = there;
-        self.nodes[second] = here;
-        self.places[there as usize] = first as u32;
-        self.places[here as usize] = second as u32;
+        self.items[at] = item;
+        self.places.set(item.node, at as u32 + 1);
     }
-}
-
-/// The numbers from 0.
-fn numbers(alloc: Global, count: u32) -> Result<Vec<u32>, NoMemory>
-    ensures long { IfOk result (λ list. length list.items ≡ count) }
-    ensures each { IfOk result (λ list. (i : ℕ) → i < count → slice_index list.items i ≡ i) }
-{
-    let mut list = Vec::with_capacity(alloc, count as usize)?;
-    for i in 0..count {
-        list.push(i)?;
-    }
-    Ok(list)
 }

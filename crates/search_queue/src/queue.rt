@@ -2,7 +2,7 @@
 ghost use Rattle.std.specs.Prelude.{◌≡◌, ◌<◌, ◌≤◌, ℕ, Some, None, length, replicate, slice_set, IfSome, IfNone, IfOk, IsSomeAnd};
 ghost use Rattle.search_queue.specs.Keys.{key_at};
 
-use crate::heap::Heap;
+use crate::heap::{Heap, Item};
 use gh_base::{NoMemory, NodeId};
 use std::alloc::Global;
 use std::marker::Model;
@@ -10,19 +10,18 @@ use std::marker::Model;
 /// Nodes with keys, of which one with a least key can be taken. Contracts see the keys by node.
 #[derive(Drop)]
 pub struct Queue {
-    keys: Vec<Option<u128>>,
     heap: Heap,
 }
 
 impl Model for Queue {
     ghost use Rattle.std.specs.Prelude.{ℕ, Option, List};
-    ghost use Rattle.search_queue.specs.Heaps.{IsHeap};
+    ghost use Rattle.search_queue.specs.Heaps.{keys_of, IsHeap};
 
     ghost Value = { List (Option ℕ) };
 
-    ghost view = { λ q. q.keys.items };
+    ghost view = { λ q. keys_of q.heap };
 
-    ghost invariant = { λ q. IsHeap q.keys.items q.heap };
+    ghost invariant = { λ q. IsHeap q.heap };
 }
 
 impl Queue {
@@ -31,7 +30,6 @@ impl Queue {
         ensures { IfOk result (λ q. q ≡ replicate nodes None) }
     {
         Ok(Queue {
-            keys: empty_keys(alloc, nodes)?,
             heap: Heap::new(alloc, nodes)?,
         })
     }
@@ -42,22 +40,16 @@ impl Queue {
         requires absent { key_at self.old node.0 ≡ None }
         ensures { self.new ≡ slice_set self.old node.0 (Some key) }
     {
-        self.keys[node.0 as usize] = Some(key);
-        self.heap.enter(node.0);
-        let last = self.heap.last();
-        self.heap.rise(&self.keys, last);
+        self.heap.enter(Item { key, node: node.0 });
     }
 
     /// Gives a node of the queue a key that is no greater than its own.
-    #[tactic(auto, using(crate::proofs::Orders::lowered_may_rise))]
     pub fn lower(&mut self, node: NodeId, key: u128)
         requires node { node.0 < length self.old }
         requires present { IsSomeAnd (key_at self.old node.0) (λ k. key ≤ k) }
         ensures { self.new ≡ slice_set self.old node.0 (Some key) }
     {
-        self.keys[node.0 as usize] = Some(key);
-        let place = self.heap.place(node.0);
-        self.heap.rise(&self.keys, place);
+        self.heap.lower(Item { key, node: node.0 });
     }
 
     /// The key of a node, or None where the node is not in the queue.
@@ -65,11 +57,10 @@ impl Queue {
         requires { node.0 < length self.now }
         ensures { result ≡ key_at self.now node.0 }
     {
-        self.keys[node.0 as usize]
+        self.heap.key(node.0)
     }
 
     /// Takes a node with a least key out of the queue, with its key. None if no node is in it.
-    #[tactic(auto, using(crate::proofs::Orders::first_is_least))]
     pub fn pop_least(&mut self) -> Option<(NodeId, u128)>
         ensures none { IfNone result ((node : ℕ) → key_at self.old node ≡ None) }
         ensures stays { IfNone result (self.new ≡ self.old) }
@@ -77,24 +68,9 @@ impl Queue {
         ensures least { IfSome result (λ f. (node key : ℕ) → key_at self.old node ≡ Some key → f.1 ≤ key) }
         ensures taken { IfSome result (λ f. self.new ≡ slice_set self.old f.0.0 None) }
     {
-        let node = self.heap.first()?;
-        let key = self.keys[node as usize]?;
-        self.keys[node as usize] = None;
-        self.heap.leave();
-        self.heap.sink(&self.keys, 0);
-        Some((NodeId(node), key))
+        let item = self.heap.leave()?;
+        Some((NodeId(item.node), item.key))
     }
-}
-
-/// A key for each node, and none there.
-fn empty_keys(alloc: Global, nodes: u32) -> Result<Vec<Option<u128>>, NoMemory>
-    ensures { IfOk result (λ keys. keys.items ≡ replicate nodes None) }
-{
-    let mut keys = Vec::with_capacity(alloc, nodes as usize)?;
-    for _ in 0..nodes {
-        keys.push(None)?;
-    }
-    Ok(keys)
 }
 
 #[cfg(test)]

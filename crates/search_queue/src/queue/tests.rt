@@ -1,5 +1,5 @@
 //! The queue against a plain one, which goes through all keys for the least.
-ghost use Rattle.std.specs.Prelude.{◌≡◌, ◌<◌, ◌≤◌, ℕ, Some, None, length, slice_set, IfSome, IfNone, IsSomeAnd};
+ghost use Rattle.std.specs.Prelude.{◌≡◌, ◌<◌, ◌≤◌, ℕ, Some, None, length, replicate, slice_set, IfOk, IfSome, IfNone, IsSomeAnd};
 ghost use Rattle.search_queue.specs.Keys.{key_at};
 
 use super::*;
@@ -26,6 +26,17 @@ fn least_key(keys: &[Option<u128>]) -> Option<(usize, u128)>
         }
     }
     least
+}
+
+/// A key for each node, and none there.
+fn empty_keys(alloc: Global, nodes: u32) -> Result<Vec<Option<u128>>, NoMemory>
+    ensures { IfOk result (λ keys. keys.items ≡ replicate nodes None) }
+{
+    let mut keys = Vec::with_capacity(alloc, nodes as usize)?;
+    for _ in 0..nodes {
+        keys.push(None)?;
+    }
+    Ok(keys)
 }
 
 fn put(queue: &mut Queue, plain: &mut [Option<u128>], node: u32, key: u128)
@@ -85,6 +96,27 @@ fn nodes_come_by_key_and_equal_keys_in_any_order(rt: HostRuntime) -> Result<(), 
     }
     assert_eq!(rt; pop(&rt, &mut queue, &mut plain), Some((0, 50)));
     assert_eq!(rt; pop(&rt, &mut queue, &mut plain), Some((5, 60)));
+    assert_eq!(rt; pop(&rt, &mut queue, &mut plain), None);
+    Ok(())
+}
+
+#[test]
+fn nodes_pages_apart_and_keys_past_64_bits_keep_their_order(rt: HostRuntime) -> Result<(), Fail> {
+    let mut queue = Queue::new(rt.alloc(), 3000)?;
+    let mut plain = empty_keys(rt.alloc(), 3000)?;
+    put(&mut queue, &mut plain, 2999, 18446744073709551617);
+    put(&mut queue, &mut plain, 0, 18446744073709551615);
+    put(&mut queue, &mut plain, 1500, 3);
+    assert_eq!(rt; queue.key_of(NodeId(2999)), Some(18446744073709551617));
+    assert_eq!(rt; pop(&rt, &mut queue, &mut plain), Some((1500, 3)));
+    assert_eq!(rt;
+        pop(&rt, &mut queue, &mut plain),
+        Some((0, 18446744073709551615))
+    );
+    assert_eq!(rt;
+        pop(&rt, &mut queue, &mut plain),
+        Some((2999, 18446744073709551617))
+    );
     assert_eq!(rt; pop(&rt, &mut queue, &mut plain), None);
     Ok(())
 }

@@ -14,8 +14,8 @@ invariant-nodes g l =
       same : g.V.RoadView.network l.view ≡ network;
       starts : g.V.RoadView.starts l.view ≡ g.V.RoadView.starts l.fn.view + l.settled;
       few : network.nodes < 2 ^ 32;
-      underway : IsUnderway network bound l.fn.start.0 l.target.0 l.settled l.reached.items l.queue;
-      in_order : FallsAlong network bound → IsInOrder network bound l.reached.items l.queue;
+      underway : IsUnderway network bound l.fn.start.0 l.target.0 l.settled l.reached l.queue;
+      in_order : FallsAlong network bound → IsInOrder network bound l.reached l.queue;
     }
 
 -- each start settles a node
@@ -31,11 +31,11 @@ invariant-hops g l =
       same : g.V.RoadView.network l.view ≡ network;
       starts : g.V.RoadView.starts l.view ≡ g.V.RoadView.starts l.fn.view + l.settled;
       few : network.nodes < 2 ^ 32;
-      underway : IsUnderway network bound l.fn.start.0 l.target.0 l.settled l.reached.items l.queue;
-      from_settled : IsSettled l.reached.items l.queue l.node.0 l.from;
+      underway : IsUnderway network bound l.fn.start.0 l.target.0 l.settled l.reached l.queue;
+      from_settled : IsSettled l.reached l.queue l.node.0 l.from;
       deep : l.from.depth + 1 ≤ l.settled;
       rest : (hop : Hop) → Contains (g.V.RoadView.left l.view) hop → Contains (hops_from network l.node.0) hop;
-      ordered : FallsAlong network bound → (x : ℕ) × (bound l.node.0 ≡ Some x) × IsOrdered network bound (l.from.weight + x) l.reached.items l.queue l.node.0 (g.V.RoadView.left l.view);
+      ordered : FallsAlong network bound → (x : ℕ) × (bound l.node.0 ≡ Some x) × IsOrdered network bound (l.from.weight + x) l.reached l.queue l.node.0 (g.V.RoadView.left l.view);
     }
 
 abbrev pub decreases-hops : goal.decreases-hops

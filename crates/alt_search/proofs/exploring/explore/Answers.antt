@@ -10,10 +10,10 @@ pub returns-clause-once : goal.returns-clause-once
 returns-clause-once g c = rw c.after.ensures.settled (starts_once c.in_ok-end.ensures.done.underway)
 
 pub returns-clause-nodes : goal.returns-clause-nodes
-returns-clause-nodes g c = ap (λ v. length v.items) c.after.ensures.reached ∙ c.in_ok-end.ensures.done.underway.long_reached
+returns-clause-nodes g c = ap length c.after.ensures.reached ∙ c.in_ok-end.ensures.done.underway.long_reached
 
 pub returns-clause-walks : goal.returns-clause-walks
 returns-clause-walks g c = λ node weight e. told_walk c.in_ok-end.ensures.done node weight (rw (c.after.ensures.reached, c.after.ensures.queue) at e)
 
 pub returns-clause-least : goal.returns-clause-least
-returns-clause-least g c = λ f. tells_same (ap (λ v. v.items) c.after.ensures.reached) c.after.ensures.queue (tells_least c.in_ok-end.end.at_target c.in_ok-end.ensures.done f)
+returns-clause-least g c = λ f. tells_same c.after.ensures.reached c.after.ensures.queue (tells_least c.in_ok-end.end.at_target c.in_ok-end.ensures.done f)
