@@ -32,7 +32,7 @@ pub use gh_base::{Place, RouteAnswer};
 pub use ground::Ground;
 pub use history_laws::{limits_follow_entries, slots_follow_limits};
 pub use laws::{answers_agree, lengths_are_those_of_pieces};
-pub use query::{Query, RouteQuery};
+pub use query::{Query, RouteQuery, model_slows};
 pub use routing::route;
 pub use spot::Spot;
 pub use state::RoadState;

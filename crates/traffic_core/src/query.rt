@@ -66,7 +66,7 @@ pub struct RouteQuery<'a> {
 }
 
 /// A model without an offender under a profile only slows it.
-fn model_slows(profile: &Profile, model: &SlowModel)
+pub fn model_slows(profile: &Profile, model: &SlowModel)
     requires { offender profile.now.model model.now ≡ None }
     ensures { OnlySlows profile.now.model model.now }
 {
