@@ -24,7 +24,7 @@ pub(crate) fn edge_of_index(place: usize) -> DirEdge
 }
 
 /// The limit of a directed edge in a list of limits.
-pub(crate) fn listed_limit(limits: &LimitList, edge: DirEdge) -> u32
+pub fn listed_limit(limits: &LimitList, edge: DirEdge) -> u32
     requires { index_of edge < length limits.now }
     ensures { result ≡ limit_in limits.now edge }
 {

@@ -26,6 +26,7 @@ mod tests;
 mod towers;
 mod usable;
 
+pub use edge_index::listed_limit;
 pub use entries::{Entries, EntryList};
 pub use entry::{Entry, Shared, What};
 pub use gh_base::{Place, RouteAnswer};
