@@ -10,3 +10,4 @@ pub mod Lines
 pub mod Grammar
 pub mod States
 pub mod Replies
+pub mod Entries

@@ -6,6 +6,7 @@
 #![tactic(auto)]
 
 mod commands;
+mod entry_line;
 mod fault;
 mod fields;
 mod headers;
@@ -13,6 +14,7 @@ mod line;
 mod line_words;
 mod model_text;
 mod names;
+mod noted;
 mod putting;
 mod reading;
 mod reply;
@@ -23,8 +25,10 @@ mod so_far;
 mod tests;
 mod words;
 
+pub use entry_line::put_entry;
 pub use fault::ScriptFault;
 pub use gh_base::ScriptKind;
+pub use noted::Noted;
 pub use reading::read_script;
 pub use reply::Reply;
 pub use reply_line::put_reply;

@@ -9,7 +9,7 @@ use model_check::Speeding;
 use std::alloc::Global;
 
 #[tactic(auto, unfolding(crate::specs::Replies::edge_text))]
-fn put_edge(out: &mut Text, lead: &str, edge: DirEdge) -> Result<(), NoMemory>
+pub(crate) fn put_edge(out: &mut Text, lead: &str, edge: DirEdge) -> Result<(), NoMemory>
     ensures { OnOk result (out.new ≡ out.old ++ (lead.now ++ spec.edge_text edge)) }
 {
     out.push(lead)?;
@@ -46,7 +46,7 @@ fn put_labels(out: &mut Text, labels: &[Option<u64>]) -> Result<(), NoMemory>
 }
 
 /// A word and a number.
-fn put_count(out: &mut Text, word: &str, count: u128) -> Result<(), NoMemory>
+pub(crate) fn put_count(out: &mut Text, word: &str, count: u128) -> Result<(), NoMemory>
     ensures { OnOk result (out.new ≡ out.old ++ (word.now ++ decimal count)) }
 {
     out.push(word)?;
