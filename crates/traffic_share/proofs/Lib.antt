@@ -1,0 +1,5 @@
+pub mod ListsThatBegin
+pub mod NotesOfCells
+pub mod EntriesFound
+pub mod CallsThatGoOn
+pub mod PreparationsAfter

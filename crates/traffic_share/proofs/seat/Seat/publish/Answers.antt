@@ -1,0 +1,24 @@
+use Rattle.std.proofs.Common.{ap, subst, Ok, ◌≡◌, ◌+◌, ◌++◌, ◌∷◌, [], ◌∙◌}
+use Rattle.landmark_prep.specs.Preparations.{Preparation}
+use Rattle.traffic_core.specs.declared.entry.Entry.{Entry}
+use Rattle.traffic_core.specs.declared.entry.What.TheVariants.{Publish}
+use Rattle.traffic_share.specs.Seats.{Place, entry_of}
+use Rattle.traffic_share.specs.Notes.{IsOther}
+use Rattle.traffic_share.proofs.CallsThatGoOn.{goes_on, accepted_at}
+use Rattle.traffic_share.proofs.seat.Seat.publish.Goals as goal
+
+pub returns-then-branch-clause-ok : goal.returns-then-branch-clause-ok
+returns-then-branch-clause-ok g c =
+    let with_prep : Preparation → Entry = λ prep. record { actor = c.self.inside.actor; number = c.args.number; what = Publish prep } in
+    let shared = ap with_prep (c.in_ok-again.ensures ∙ c.shared.ensures.same) in
+    let mine = c.new-mine.ensures ∙ shared ∙ ap (λ (p : Place). entry_of p c.args.number (Publish c.args.prep.now)) c.self.view_is in
+    let P : Entry → Type 0 = λ e. c.offer.new.self.entries ≡ c.turns.self.entries ++ e ∷ [] in
+    (accepted_at _ c.args.number c.args.self.now c.turns.self c.offer.new.self (c.len-at.result + 1) c.turns.invariant (subst P mine (c.in_ok-offer.ensures.mine (ap (λ b. Ok b) c.if-branch.true))) (ap (λ n. n + 1) c.len-at.ensures), c.in_default.ensures)
+
+pub turns-preserved : goal.turns-preserved
+turns-preserved g c =
+    let with_prep : Preparation → Entry = λ prep. record { actor = c.self.inside.actor; number = c.args.number; what = Publish prep } in
+    let shared = ap with_prep (c.in_ok-again.ensures ∙ c.shared.ensures.same) in
+    let mine = c.new-mine.ensures ∙ shared ∙ ap (λ (p : Place). entry_of p c.args.number (Publish c.args.prep.now)) c.self.view_is in
+    let P : Entry → Type 0 = λ e. IsOther e c.turns.self.entries c.offer.new.self.entries in
+    goes_on _ _ _ _ _ c.turns.invariant c.offer.ensures.same (subst P mine (c.in_ok-offer.ensures.other (ap (λ b. Ok b) c.if-branch.false)))
