@@ -1,0 +1,174 @@
+-- From a seat's replies to what is told of them.
+use Rattle.std.proofs.Common.{◌≡◌, ◌+◌, ◌-◌, ◌<◌, ◌≤◌, ◌++◌, ◌∷◌, ◌∙◌, ℕ, true, false, List, [], length, take, Some, refl, sym, ap, subst, arith, length-append, append_assoc, slice_get}
+use Rattle.std.proofs.Math.Seq.{take-append_seam, get_or-append_seam, take-length}
+use Rattle.std.proofs.lemmas.List.{append-nil}
+use Rattle.std.proofs.lemmas.Option.{slice_get-get_or}
+use Rattle.gh_base.specs.declared.edges.DirEdge.{DirEdge}
+use Rattle.landmark_prep.specs.Preparations.{Preparation}
+use Rattle.traffic_core.specs.declared.entry.Entry.{Entry}
+use Rattle.traffic_core.specs.declared.entry.What.{What}
+use Rattle.traffic_core.specs.declared.entry.What.TheVariants as what
+use Rattle.traffic_core.specs.Lands.{Land}
+use Rattle.traffic_core.specs.History.{limit_in, limit_after, IsFirstBelow}
+use Rattle.script_text.specs.declared.script.Line.{Line}
+use Rattle.script_text.specs.declared.reply.Reply.{Reply}
+use Rattle.script_text.specs.declared.reply.Reply.TheVariants as reply
+use Rattle.traffic_share.specs.Seats.{Place, entry_of, StartsWith, GrewWithout, Accepts}
+use Rattle.traffic_share.specs.Lowering.{Lowers}
+use Rattle.traffic_share.specs.Restoring.{Restores}
+use Rattle.traffic_share.specs.Publishing.{Publishes}
+use Rattle.traffic_share.specs.declared.replies.LowerReply.{LowerReply}
+use Rattle.traffic_share.specs.declared.replies.LowerReply.TheVariants as lower
+use Rattle.traffic_share.specs.declared.replies.RestoreReply.{RestoreReply}
+use Rattle.traffic_share.specs.declared.replies.RestoreReply.TheVariants as restore
+use Rattle.traffic_share.specs.declared.replies.PublishReply.{PublishReply}
+use Rattle.traffic_share.specs.declared.replies.PublishReply.TheVariants as publish
+use Rattle.script_service.specs.declared.told.Told.{Told}
+use Rattle.script_service.specs.Answering.{is_accepted}
+use Rattle.script_service.specs.Replying.{IsEntry, SaysLower, SaysRestore, SaysPublish}
+use Rattle.script_service.specs.Telling.{answered}
+use Rattle.script_service.specs.SeatReplies.{told_of_lower, told_of_restore, told_of_publish}
+
+-- the reply speaks of the whole list, which begins with the old one, and is longer where it has an entry of its own
+pub record Speaks (xs ys : List Entry) (told : Told) : Type 0 where
+  pub starts : StartsWith ys xs
+  pub at : told.at ≡ length ys
+  pub new : is_accepted told.reply ≡ true → length xs < length ys
+
+pub starts_grew : (mine : Entry) (xs ys : List Entry) → GrewWithout mine xs ys → StartsWith ys xs
+starts_grew mine xs ys grew = record { rest = grew.rest; is = grew.is }
+
+pub starts_same : (xs : List Entry) → StartsWith xs xs
+starts_same xs = record { rest = []; is = sym (append-nil xs) }
+
+-- the list as a reply sees it that speaks of all of it
+pub all_seen : (ys : List Entry) (at : ℕ) → at ≡ length ys → take at ys ≡ ys
+all_seen ys at is = rw is (take-length ys)
+
+-- an entry that was put behind a front: its place, and the front before it
+record IsLast (mine : Entry) (front ys : List Entry) (at : ℕ) : Type 0 where
+  from_one : 1 ≤ at
+  entry : slice_get ys (at - 1) ≡ Some mine
+  before : take (at - 1) ys ≡ front
+  longer : length front < length ys
+
+is_last : (mine : Entry) (front ys : List Entry) (at : ℕ) → ys ≡ front ++ mine ∷ [] → at ≡ length ys → IsLast mine front ys at
+is_last mine front ys at is place =
+    let long : length ys ≡ length front + 1 = rw is (omega (arith, length-append front (mine ∷ []))) in
+    let here : at - 1 ≡ length front = omega arith in
+    record {
+      from_one = omega arith;
+      entry = rw (here, is) (slice_get-get_or (front ++ mine ∷ []) (length front) mine (omega (arith, length-append front (mine ∷ []))) ∙ ap (λ e. Some e) (get_or-append_seam front mine [] mine));
+      before = rw (here, is) (take-append_seam front (mine ∷ []));
+      longer = omega arith;
+    }
+
+-- what an accepted call says of its entry, in a reply's words
+own_entry : (before : Place) (front ys : List Entry) (line : Line) (at : ℕ) (said : Reply) (change : What) → line.actor ≡ before.actor →
+    IsLast (entry_of before line.number change) front ys at → IsEntry ys (record { line = line; at = at; reply = said }) change
+own_entry before front ys line at said change own last =
+    (last.from_one, last.entry ∙ ap (λ (n : ℕ). Some (record { actor = n; number = line.number; what = change })) (sym own))
+
+-- the list grew by one entry at least
+grew_by_one : (mine : Entry) (xs front ys : List Entry) (at : ℕ) → GrewWithout mine xs front → IsLast mine front ys at → length xs < length ys
+grew_by_one mine xs front ys at grew last = let long = ap length grew.is in omega (arith, last.longer, length-append xs grew.rest, long)
+
+starts_accepted : (mine : Entry) (xs ys : List Entry) (at : ℕ) → Accepts mine xs ys at → StartsWith ys xs
+starts_accepted mine xs ys at took = record {
+  rest = took.begins.rest ++ mine ∷ [];
+  is = took.is ∙ ap (λ (l : List Entry). l ++ mine ∷ []) took.begins.is ∙ append_assoc xs took.begins.rest (mine ∷ []);
+}
+
+-- a reply that has no entry of its own
+refused : (mine : Entry) (xs ys : List Entry) (told : Told) → GrewWithout mine xs ys → told.at ≡ length ys → is_accepted told.reply ≡ false → Speaks xs ys told
+refused mine xs ys told grew at is = record { starts = starts_grew mine xs ys grew; at = at; new = λ took. absurd cc }
+
+-- and one that has
+accepted : (mine : Entry) (xs ys : List Entry) (told : Told) → Accepts mine xs ys told.at → Speaks xs ys told
+accepted mine xs ys told took = record {
+  starts = starts_accepted mine xs ys told.at took;
+  at = took.place;
+  new = λ _. grew_by_one mine xs took.front ys told.at took.begins (is_last mine took.front ys told.at took.is took.place);
+}
+
+module _ (land : Land) (before after : Place) (line : Line) where
+  -- a told reply to a lowering is right
+  pub record IsLowerTold (by : DirEdge) (speed : ℕ) (told : Told) : Type 0 where
+    pub speaks : Speaks before.entries after.entries told
+    pub says : SaysLower land (length before.cells) after.entries (answered line told) by speed told.reply
+
+  pub lower_told : (by : DirEdge) (speed : ℕ) (said : LowerReply) → line.actor ≡ before.actor → after.cells ≡ before.cells →
+      Lowers land.graph line.number by speed before after said → IsLowerTold by speed (told_of_lower (length after.entries) said)
+  lower_told by speed (lower.NoSuchEdge edge) own cells is = record {
+    speaks = refused _ _ _ _ is.2 refl refl;
+    says = is.1;
+  }
+  lower_told by speed (lower.NotLower at now) own cells is = record {
+    speaks = refused _ _ _ _ is.1.begins is.1.place refl;
+    says = (is.0, rw (all_seen after.entries at is.1.place) (is.2, is.3));
+  }
+  lower_told by speed (lower.JournalFull at) own cells is = record {
+    speaks = refused _ _ _ _ is.1.begins is.1.place refl;
+    says = (is.0, rw (all_seen after.entries at is.1.place) (is.3, is.1.place ∙ is.2 ∙ ap length cells));
+  }
+  lower_told by speed (lower.Lowered at) own cells is =
+      let took = is.1.0 in
+      let last = is_last (entry_of before line.number (what.Lower by speed)) took.front after.entries at took.is took.place in
+      record {
+        speaks = accepted _ _ _ _ took;
+        says = (is.0, (own_entry before took.front after.entries line at reply.Lowered (what.Lower by speed) own last, rw last.before is.1.1));
+      }
+
+  pub record IsRestoreTold (by : DirEdge) (speed : ℕ) (told : Told) : Type 0 where
+    pub speaks : Speaks before.entries after.entries told
+    pub says : SaysRestore land (length before.cells) after.entries (answered line told) by speed told.reply
+
+  pub restore_told : (by : DirEdge) (speed : ℕ) (said : RestoreReply) → line.actor ≡ before.actor → after.cells ≡ before.cells →
+      Restores land.graph line.number by speed before after said → IsRestoreTold by speed (told_of_restore (length after.entries) said)
+  restore_told by speed (restore.NoSuchEdge edge) own cells is = record {
+    speaks = refused _ _ _ _ is.2 refl refl;
+    says = is.1;
+  }
+  restore_told by speed (restore.NotHigher at now) own cells is = record {
+    speaks = refused _ _ _ _ is.1.begins is.1.place refl;
+    says = (is.0, rw (all_seen after.entries at is.1.place) (is.2, is.3));
+  }
+  restore_told by speed (restore.OverBase at base) own cells is = record {
+    speaks = refused _ _ _ _ is.1.begins is.1.place refl;
+    says = (is.0, rw (all_seen after.entries at is.1.place) (is.2, is.3, is.4));
+  }
+  restore_told by speed (restore.JournalFull at) own cells is = record {
+    speaks = refused _ _ _ _ is.1.begins is.1.place refl;
+    says = (is.0, rw (all_seen after.entries at is.1.place) (is.3, is.4, is.1.place ∙ is.2 ∙ ap length cells));
+  }
+  restore_told by speed (restore.Restored at) own cells is =
+      let took = is.2.0 in
+      let last = is_last (entry_of before line.number (what.Restore by speed)) took.front after.entries at took.is took.place in
+      record {
+        speaks = accepted _ _ _ _ took;
+        says = (is.0, (own_entry before took.front after.entries line at reply.Restored (what.Restore by speed) own last, rw last.before is.2.1, is.1));
+      }
+
+  pub record IsPublishTold (prep : Preparation) (told : Told) : Type 0 where
+    pub speaks : Speaks before.entries after.entries told
+    pub says : SaysPublish land (length before.cells) after.entries (answered line told) (Some prep) told.reply
+
+  pub publish_told : (prep : Preparation) (said : PublishReply) → line.actor ≡ before.actor → after.cells ≡ before.cells →
+      Publishes land.graph line.number prep before after said → IsPublishTold prep (told_of_publish said)
+  publish_told prep (publish.NotInForce at by earlier now) own cells is =
+      let Says : List Entry → Type 0 = λ h. (earlier ≡ limit_in prep.snapshot by) × (now ≡ limit_after land.graph h by) × IsFirstBelow land.graph (limit_after land.graph h) prep.snapshot by in
+      record {
+        speaks = refused _ _ _ _ is.0.begins is.0.place refl;
+        says = subst Says (sym (all_seen after.entries at is.0.place)) (is.2, is.3, is.1);
+      }
+  publish_told prep (publish.JournalFull at) own cells is = record {
+    speaks = refused _ _ _ _ is.0.begins is.0.place refl;
+    says = rw (all_seen after.entries at is.0.place) (is.2, is.0.place ∙ is.1 ∙ ap length cells);
+  }
+  publish_told prep (publish.Published at) own cells is =
+      let took = is.0 in
+      let last = is_last (entry_of before line.number (what.Publish prep)) took.front after.entries at took.is took.place in
+      record {
+        speaks = accepted _ _ _ _ took;
+        says = (own_entry before took.front after.entries line at reply.Published (what.Publish prep) own last, rw last.before is.1);
+      }

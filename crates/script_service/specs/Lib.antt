@@ -1,0 +1,10 @@
+pub mod Answering
+pub mod Replying
+pub mod Fitting
+pub mod Writing
+pub mod Going
+pub mod Laws
+pub mod Telling
+pub mod Actors
+pub mod Underway
+pub mod SeatReplies
