@@ -55,7 +55,15 @@ fn main(rt: HostRuntime) -> ExitCode {
     let mut script = StdinSource::new(rt.reader());
     let mut out = StdoutSink::new(io::writer(&rt));
     let status = match words_of(alloc, &rt) {
-        Ok(words) => run(alloc, &words, &mut files, &mut script, &mut out, &FreeGate),
+        Ok(words) => run(
+            &rt,
+            alloc,
+            &words,
+            &mut files,
+            &mut script,
+            &mut out,
+            &FreeGate,
+        ),
         Err(_) => Status::Usage,
     };
     if let Status::Done = status {

@@ -1,4 +1,3 @@
-pub mod Fronts
-pub mod Sequel
-pub mod Alone
+pub mod Sums
+pub mod Asked
 pub mod Complete

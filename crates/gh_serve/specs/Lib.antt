@@ -1,8 +1,5 @@
 pub mod Converting
-pub mod Fitting
-pub mod Replying
+pub mod Labels
 pub mod Serving
 pub mod Statuses
 pub mod Texts
-pub mod Underway
-pub mod Unrun

@@ -1,8 +1,8 @@
--- The claim: what a run that ends well wrote answers the script over the map's roads.
-use Rattle.std.specs.Prelude.{◌≡◌, ℕ, List, Option, Ok, Err}
+-- The claim: what a run that ends well wrote answers the script over the map's roads, and what stands there where it doesn't.
+use Rattle.std.specs.Prelude.{◌≡◌, ◌⊎◌, ℕ, List, Option, Ok, Err}
 use Rattle.std.specs.List.{IsDistinct}
 use Rattle.std.specs.Ordering.{int_eq}
-use Rattle.std.specs.Io.KnownBytes.{Appends}
+use Rattle.std.specs.Io.KnownBytes.{Appends, Keeps}
 use Rattle.gh_base.specs.Causes.{AppendsFront}
 use Rattle.gh_base.specs.declared.kinds.Form.{Form}
 use Rattle.gh_base.specs.declared.map.OsmMap.{OsmMap}
@@ -10,14 +10,15 @@ use Rattle.base_graph.specs.Graphs.{IsGraph}
 use Rattle.map_import.specs.Roads.{place_in, points_along}
 use Rattle.map_import.specs.Refusals.{roads}
 use Rattle.map_import.specs.Building.{laid_as}
+use Rattle.script_text.specs.declared.script.Script.{Script}
 use Rattle.script_text.specs.declared.script.ScriptRead.{ScriptRead}
 use Rattle.script_text.specs.Grammar.{script_of}
 use Rattle.traffic_core.specs.Lands.{Land, AreAsLong}
+use Rattle.script_service.specs.Writing.{BeginsText, Fits, BeginsOrFits}
 use Rattle.map_import.specs.declared.roads.Roads.{Roads}
 use Rattle.gh_serve.specs.declared.status.MapFault.TheVariants as fault
 use Rattle.gh_serve.specs.declared.status.Status.{Status}
 use Rattle.gh_serve.specs.declared.status.Status.TheVariants as status
-use Rattle.gh_serve.specs.Fitting.{Fits}
 use Rattle.gh_serve.specs.Statuses.{ReadsAs}
 
 -- the roads of a map: its towers and edges, each tower at the place of its node
@@ -45,8 +46,8 @@ IsRefusedFor map status.NoMemory = Unit {0}
 IsRefusedFor map (status.BadMap (fault.Import refusal)) = roads map ≡ Err refusal
 IsRefusedFor map other = ⊥
 
--- the text answers the script that these bytes are, over the roads of the map that those bytes are
-pub record IsServed (form : Form) (map_bytes script_bytes text : List ℕ) : Type 0 where
+-- a text stands so to the roads of the map that these bytes are, and to the script that those bytes are
+pub record IsOfBoth (Stands : Land → Script → List ℕ → Type 0) (form : Form) (map_bytes script_bytes text : List ℕ) : Type 0 where
   pub map : OsmMap
   pub map_is : ReadsAs form map_bytes map
   pub read : ScriptRead
@@ -54,12 +55,20 @@ pub record IsServed (form : Form) (map_bytes script_bytes text : List ℕ) : Typ
   pub land : Land
   pub roads_are : AreRoadsOf map land
   pub profiles_are : land.profiles ≡ read.profiles
-  pub fits : Fits land read.script text
+  pub stands : Stands land read.script text
+
+-- the text answers the script over the roads of the map
+abbrev pub IsServed : Form → List ℕ → List ℕ → List ℕ → Type 0
+IsServed form map_bytes script_bytes text = IsOfBoth Fits form map_bytes script_bytes text
 
 -- where they are known, behind its old bytes the sink has such a text
 abbrev pub Serves : Form → List ℕ → List ℕ → Option (List ℕ) → Option (List ℕ) → Type 0
 Serves form map_bytes script_bytes old new = (text : List ℕ) × IsServed form map_bytes script_bytes text × Appends old new text
 
--- or a front of it
+-- or a front of a text that answers the script, or its first phases
 abbrev pub ServesFront : Form → List ℕ → List ℕ → Option (List ℕ) → Option (List ℕ) → Type 0
-ServesFront form map_bytes script_bytes old new = (text : List ℕ) × IsServed form map_bytes script_bytes text × AppendsFront old new text
+ServesFront form map_bytes script_bytes old new = (text : List ℕ) × IsOfBoth BeginsOrFits form map_bytes script_bytes text × AppendsFront old new text
+
+-- or, where memory was wanting, nothing, or the replies of whole phases
+abbrev pub ServesPart : Form → List ℕ → List ℕ → Option (List ℕ) → Option (List ℕ) → Type 0
+ServesPart form map_bytes script_bytes old new = Keeps old new ⊎ ((text : List ℕ) × IsOfBoth BeginsText form map_bytes script_bytes text × Appends old new text)

@@ -1,9 +1,7 @@
 -- What a status says: of the words, of the bytes of map and script, and of what the sink has.
-use Rattle.std.specs.Prelude.{◌≡◌, ◌<◌, ◌≤◌, ◌⊎◌, ℕ, List, length, Option, Some, None, Ok, Err}
+use Rattle.std.specs.Prelude.{◌≡◌, ◌<◌, ◌≤◌, ◌+◌, ◌⊎◌, ℕ, List, length, Option, Some, None, Ok, Err}
 use Rattle.gh_base.specs.declared.kinds.Form.{Form}
 use Rattle.gh_base.specs.declared.kinds.Form.TheVariants as forms
-use Rattle.gh_base.specs.declared.kinds.ScriptKind.{ScriptKind}
-use Rattle.gh_base.specs.declared.kinds.ScriptKind.TheVariants as kinds
 use Rattle.gh_base.specs.declared.map.OsmMap.{OsmMap}
 use Rattle.gh_base.specs.Causes.{Rose}
 use Rattle.plain_map.specs.Lines as plain
@@ -17,7 +15,7 @@ use Rattle.script_text.specs.declared.script.ScriptRead.{ScriptRead}
 use Rattle.script_text.specs.declared.fault.ScriptFault.TheVariants as script_fault
 use Rattle.script_text.specs.Grammar.{script_of}
 use Rattle.gh_words.specs.Words.{Asked, Serve, Convert}
-use Rattle.gh_serve.specs.Unrun.{first_unrun}
+use Rattle.gh_serve.specs.Labels.{labels_asked}
 use Rattle.gh_serve.specs.declared.status.MapFault.{MapFault}
 use Rattle.gh_serve.specs.declared.status.MapFault.TheVariants as fault
 use Rattle.gh_serve.specs.declared.status.Status.{Status}
@@ -72,24 +70,34 @@ IsFaultOf (fault.Import refusal) form held = (map : OsmMap) × ReadsAs form held
 abbrev pub IsShortScript : List ℕ → Type 0
 IsShortScript held = length held ≤ 16777216
 
--- the script is in its grammar, and each of its lines is run
-pub record IsRunScript (held : List ℕ) : Type 0 where
+-- the script is in its grammar
+pub record IsScriptText (held : List ℕ) : Type 0 where
   pub short : IsShortScript held
   pub read : ScriptRead
   pub reads_as : script_of held ≡ Ok read
-  pub run : first_unrun held ≡ None
 
--- the script that is read, of which each line is run
+-- it is this script
 pub record IsScriptRead (held : List ℕ) (read : ScriptRead) : Type 0 where
   pub short : IsShortScript held
   pub reads_as : script_of held ≡ Ok read
-  pub run : first_unrun held ≡ None
 
--- the first fault of the script; or, where it is in its grammar, its first line that isn't run yet, at byte 0
-abbrev pub IsScriptFault : ℕ → ℕ → ScriptKind → List ℕ → Type 0
-IsScriptFault line byte kind held =
-    (script_of held ≡ Err (script_fault.At line byte kind))
-    ⊎ ((read : ScriptRead) × (script_of held ≡ Ok read) × (first_unrun held ≡ Some line) × (byte ≡ 0) × (kind ≡ kinds.Word))
+-- so many labels of landmarks the script asks for, on the roads of the map
+pub record AsksLabels (form : Form) (map_bytes script_bytes : List ℕ) (labels : ℕ) : Type 0 where
+  pub map : OsmMap
+  pub map_is : ReadsAs form map_bytes map
+  pub laid : Laid
+  pub roads_are : roads map ≡ Ok laid
+  pub read : ScriptRead
+  pub script_is : script_of script_bytes ≡ Ok read
+  pub labels_are : labels ≡ labels_asked (length laid.ids + length laid.edges) read.script
+
+-- these are not too many
+abbrev pub AreFewLabels : Form → List ℕ → List ℕ → Type 0
+AreFewLabels form map_bytes script_bytes = (labels : ℕ) × AsksLabels form map_bytes script_bytes labels × (labels ≤ 150000000)
+
+-- or they are
+abbrev pub AreManyLabels : Form → List ℕ → List ℕ → Type 0
+AreManyLabels form map_bytes script_bytes = (labels : ℕ) × AsksLabels form map_bytes script_bytes labels × (150000000 < labels)
 
 -- by the map's bytes: a fault exactly where it is answered, too many bytes exactly where that is, unless an earlier refusal came
 abbrev pub MapSays : Status → Form → List ℕ → Type 0
@@ -107,16 +115,30 @@ MapSays (status.TooLarge what limit) form held = IsMap form held
 
 -- by the script's bytes, alike
 abbrev pub ScriptSays : Status → List ℕ → Type 0
-ScriptSays status.Done held = IsRunScript held
-ScriptSays status.WriteFault held = IsRunScript held
-ScriptSays (status.BadScript line byte kind) held = IsShortScript held × IsScriptFault line byte kind held
+ScriptSays status.Done held = IsScriptText held
+ScriptSays status.WriteFault held = IsScriptText held
+ScriptSays (status.BadScript line byte kind) held = IsShortScript held × (script_of held ≡ Err (script_fault.At line byte kind))
 ScriptSays (status.TooLarge quantity.Script limit) held = (limit ≡ 16777216) × (limit < length held)
+ScriptSays (status.TooLarge quantity.Labels limit) held = IsScriptText held
 ScriptSays status held = Unit {0}
 
--- the statuses that a service ends with. No script that is run asks for labels of landmarks.
+-- by the labels that the script asks for on the roads of the map: too many exactly where that is answered, unless an earlier refusal came
+abbrev pub LabelsSay : Status → Form → List ℕ → List ℕ → Type 0
+LabelsSay status.Done form map_bytes script_bytes = AreFewLabels form map_bytes script_bytes
+LabelsSay status.WriteFault form map_bytes script_bytes = AreFewLabels form map_bytes script_bytes
+LabelsSay (status.TooLarge quantity.Labels limit) form map_bytes script_bytes = (limit ≡ 150000000) × AreManyLabels form map_bytes script_bytes
+LabelsSay status form map_bytes script_bytes = Unit {0}
+
+-- of a number of labels alone
+abbrev pub CountSays : Status → ℕ → Type 0
+CountSays status.Done labels = labels ≤ 150000000
+CountSays status.WriteFault labels = labels ≤ 150000000
+CountSays (status.TooLarge quantity.Labels limit) labels = (limit ≡ 150000000) × (limit < labels)
+CountSays status labels = Unit {0}
+
+-- the statuses that a service ends with
 abbrev pub IsOfService : Status → Type 0
 IsOfService status.Usage = ⊥
-IsOfService (status.TooLarge quantity.Labels limit) = ⊥
 IsOfService (status.TooLarge quantity.Way limit) = ⊥
 IsOfService status = Unit {0}
 
@@ -171,25 +193,27 @@ IsOfScript status = ⊥
 
 -- those that answering the script gives
 abbrev pub IsOfRun : Status → Type 0
+IsOfRun status.Done = Unit {0}
 IsOfRun status.NoMemory = Unit {0}
 IsOfRun status.WriteFault = Unit {0}
 IsOfRun status = ⊥
 
--- the statuses of a service after which nothing stands behind the sink's old bytes
+-- those that come once map and script are read
+abbrev pub IsOfAnswering : Status → Type 0
+IsOfAnswering (status.TooLarge quantity.Labels limit) = Unit {0}
+IsOfAnswering status = IsOfRun status
+
+-- the statuses after which nothing stands behind the sink's old bytes
 abbrev pub IsUnwritten : Status → Type 0
 IsUnwritten status.Done = ⊥
 IsUnwritten status.WriteFault = ⊥
+IsUnwritten status.NoMemory = ⊥
 IsUnwritten status = Unit {0}
 
--- those of a conversion
-abbrev pub IsUntouched : Status → Type 0
-IsUntouched status.NoMemory = ⊥
-IsUntouched status = IsUnwritten status
-
--- those of what the words ask for
+-- by what the words ask for: where they ask for nothing, want of memory is one of them
 abbrev pub IsSilent : Option Asked → Status → Type 0
-IsSilent (Some (Convert name form to)) status = IsUntouched status
-IsSilent asked status = IsUnwritten status
+IsSilent None status = Unit {0}
+IsSilent (Some asked) status = IsUnwritten status
 
 -- the status that a reading of a plain map ends with
 abbrev pub status_of_plain : PlainFault → Status

@@ -2,20 +2,22 @@
 ghost use Rattle.std.specs.Prelude.{◌≡◌, IfSome};
 ghost use Rattle.std.specs.Io.KnownBytes.{Keeps};
 ghost use Rattle.gh_base.specs.Causes.{Rose};
-ghost use Rattle.gh_serve.specs.Statuses.{IsOfService, IsOfConversion, IsUnwritten, IsUntouched, MapSays, ScriptSays};
-ghost use Rattle.gh_serve.specs.Serving.{Serves, ServesFront};
+ghost use Rattle.gh_serve.specs.Statuses.{IsOfService, IsOfConversion, IsUnwritten, MapSays, ScriptSays, LabelsSay};
+ghost use Rattle.gh_serve.specs.Serving.{Serves, ServesFront, ServesPart};
 ghost use Rattle.gh_serve.specs.Converting.{Converts, ConvertsFront, ConvertsPart, ConversionSays};
 
 use crate::conversion::convert;
 use crate::maps::read_roads;
-use crate::scripts::read_run_script;
+use crate::scripts::read_whole_script;
 use crate::serving::serve;
 use crate::status::{Status, Which};
 use gh_base::{Files, Form, Gate, Sink, Source};
 use std::alloc::Global;
+use std::thread::Threads;
 
 /// Answers a script over the roads of the map of a name.
-pub(crate) fn serve_map<F: Files, I: Source, K: Sink, G: Gate>(
+pub(crate) fn serve_map<R: Threads + Sync, F: Files, I: Source, K: Sink, G: Gate>(
+    rt: &R,
     alloc: Global,
     files: &mut F,
     name: &str,
@@ -24,29 +26,34 @@ pub(crate) fn serve_map<F: Files, I: Source, K: Sink, G: Gate>(
     out: &mut K,
     gate: &G,
 ) -> Status
-    ensures done { result ≡ Status.Done → IfSome (F.holds files.old name.now) (λ held. IfSome (I.left script.old) (λ bytes. Serves form held bytes (K.held out.old) (K.held out.new))) }
+    ensures done { result ≡ Status.Done → IfSome (F.holds files.old name.now) (λ held.
+        IfSome (I.left script.old) (λ bytes. Serves form held bytes (K.held out.old) (K.held out.new))) }
     ensures map { IfSome (F.holds files.old name.now) (MapSays result form) }
     ensures script { IfSome (I.left script.old) (ScriptSays result) }
+    ensures labels { IfSome (F.holds files.old name.now) (λ held. IfSome (I.left script.old) (λ bytes.
+        LabelsSay result form held bytes)) }
     ensures statuses { IsOfService result }
-    ensures open { result ≡ Status.OpenFault → Rose (F.failed_brings files.old (F.mark_of files.old name.now)) (F.failed_brings files.new (F.mark_of files.old name.now)) }
-    ensures read_map { result ≡ Status.ReadFault Which.Map → Rose (F.failed_takes files.old (F.mark_of files.old name.now)) (F.failed_takes files.new (F.mark_of files.old name.now)) }
+    ensures open { result ≡ Status.OpenFault →
+        Rose (F.failed_brings files.old (F.mark_of files.old name.now)) (F.failed_brings files.new (F.mark_of files.old name.now)) }
+    ensures read_map { result ≡ Status.ReadFault Which.Map →
+        Rose (F.failed_takes files.old (F.mark_of files.old name.now)) (F.failed_takes files.new (F.mark_of files.old name.now)) }
     ensures read_script { result ≡ Status.ReadFault Which.Script → Rose (I.faults script.old) (I.faults script.new) }
     ensures write { result ≡ Status.WriteFault → Rose (K.faults out.old) (K.faults out.new) }
-    ensures front { result ≡ Status.WriteFault → IfSome (F.holds files.old name.now) (λ held. IfSome (I.left script.old) (λ bytes. ServesFront form held bytes (K.held out.old) (K.held out.new))) }
+    ensures front { result ≡ Status.WriteFault → IfSome (F.holds files.old name.now) (λ held.
+        IfSome (I.left script.old) (λ bytes. ServesFront form held bytes (K.held out.old) (K.held out.new))) }
+    ensures part { result ≡ Status.NoMemory → IfSome (F.holds files.old name.now) (λ held.
+        IfSome (I.left script.old) (λ bytes. ServesPart form held bytes (K.held out.old) (K.held out.new))) }
     ensures nothing { IsUnwritten result → Keeps (K.held out.old) (K.held out.new) }
 {
     let roads = match read_roads(alloc, files, name, form) {
         Ok(roads) => roads,
         Err(status) => return status,
     };
-    let read = match read_run_script(alloc, script) {
+    let read = match read_whole_script(alloc, script) {
         Ok(read) => read,
         Err(status) => return status,
     };
-    match serve(alloc, roads, read, out, gate) {
-        Ok(()) => Status::Done,
-        Err(status) => status,
-    }
+    serve(rt, alloc, roads, read, out, gate)
 }
 
 /// Writes the map of a name in another form. The source goes back whatever comes.
@@ -58,15 +65,20 @@ pub(crate) fn convert_map<F: Files, K: Sink>(
     to: Form,
     out: &mut K,
 ) -> Status
-    ensures done { result ≡ Status.Done → IfSome (F.holds files.old name.now) (λ held. Converts form to held (K.held out.old) (K.held out.new)) }
+    ensures done { result ≡ Status.Done → IfSome (F.holds files.old name.now) (λ held.
+        Converts form to held (K.held out.old) (K.held out.new)) }
     ensures map { IfSome (F.holds files.old name.now) (ConversionSays result form to) }
     ensures statuses { IsOfConversion result }
-    ensures open { result ≡ Status.OpenFault → Rose (F.failed_brings files.old (F.mark_of files.old name.now)) (F.failed_brings files.new (F.mark_of files.old name.now)) }
-    ensures read { result ≡ Status.ReadFault Which.Map → Rose (F.failed_takes files.old (F.mark_of files.old name.now)) (F.failed_takes files.new (F.mark_of files.old name.now)) }
+    ensures open { result ≡ Status.OpenFault →
+        Rose (F.failed_brings files.old (F.mark_of files.old name.now)) (F.failed_brings files.new (F.mark_of files.old name.now)) }
+    ensures read { result ≡ Status.ReadFault Which.Map →
+        Rose (F.failed_takes files.old (F.mark_of files.old name.now)) (F.failed_takes files.new (F.mark_of files.old name.now)) }
     ensures write { result ≡ Status.WriteFault → Rose (K.faults out.old) (K.faults out.new) }
-    ensures front { result ≡ Status.WriteFault → IfSome (F.holds files.old name.now) (λ held. ConvertsFront form to held (K.held out.old) (K.held out.new)) }
-    ensures part { result ≡ Status.NoMemory → IfSome (F.holds files.old name.now) (λ held. ConvertsPart form to held (K.held out.old) (K.held out.new)) }
-    ensures nothing { IsUntouched result → Keeps (K.held out.old) (K.held out.new) }
+    ensures front { result ≡ Status.WriteFault → IfSome (F.holds files.old name.now) (λ held.
+        ConvertsFront form to held (K.held out.old) (K.held out.new)) }
+    ensures part { result ≡ Status.NoMemory → IfSome (F.holds files.old name.now) (λ held.
+        ConvertsPart form to held (K.held out.old) (K.held out.new)) }
+    ensures nothing { IsUnwritten result → Keeps (K.held out.old) (K.held out.new) }
 {
     let Ok(mut source) = files.bring(name) else {
         return Status::OpenFault;

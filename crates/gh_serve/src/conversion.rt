@@ -2,7 +2,7 @@
 ghost use Rattle.std.specs.Prelude.{◌≡◌, ◌≢◌, ◌≤◌, OnOk, OnErr, IfOk, IfErr, IsErrOf, IfSome};
 ghost use Rattle.std.specs.Io.KnownBytes.{Appends, Keeps};
 ghost use Rattle.gh_base.specs.Causes.{Rose, AppendsFront};
-ghost use Rattle.gh_serve.specs.Statuses.{IsOfConversion, IsUntouched};
+ghost use Rattle.gh_serve.specs.Statuses.{IsOfConversion, IsUnwritten};
 ghost use Rattle.gh_serve.specs.Converting.{text_in, FitsIn, IsUnfit, Converts, ConvertsFront, ConvertsPart, ConversionSays};
 
 use crate::maps::read_map;
@@ -66,7 +66,7 @@ pub fn convert<S: Source, K: Sink>(
     ensures write { result ≡ Status.WriteFault → Rose (K.faults out.old) (K.faults out.new) }
     ensures front { result ≡ Status.WriteFault → IfSome (S.left source.old) (λ held. ConvertsFront form to held (K.held out.old) (K.held out.new)) }
     ensures part { result ≡ Status.NoMemory → IfSome (S.left source.old) (λ held. ConvertsPart form to held (K.held out.old) (K.held out.new)) }
-    ensures nothing { IsUntouched result → Keeps (K.held out.old) (K.held out.new) }
+    ensures nothing { IsUnwritten result → Keeps (K.held out.old) (K.held out.new) }
     ensures later { S.faults source.old ≤ S.faults source.new }
     ensures mark { S.mark source.new ≡ S.mark source.old }
 {

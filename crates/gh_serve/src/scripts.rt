@@ -1,13 +1,11 @@
 //! Scripts.
-ghost use Rattle.std.specs.Prelude.{◌≡◌, ◌≤◌, length, None, Ok, IfOk, IfErr, IsErrOf, IfSome};
+ghost use Rattle.std.specs.Prelude.{◌≡◌, ◌≤◌, length, IfOk, IfErr, IsErrOf, IfSome};
 ghost use Rattle.gh_base.specs.Causes.{Rose};
 ghost use Rattle.script_text.specs.Scripts.{IsScript};
-ghost use Rattle.gh_serve.specs.Unrun.{first_unrun};
 ghost use Rattle.gh_serve.specs.Statuses.{IsScriptRead, IsOfScript, ScriptSays};
 
 use crate::status::{Quantity, Status, Which};
-use crate::unrun::first_unrun;
-use gh_base::{ScriptKind, Source, TakeFault, read_whole};
+use gh_base::{Source, TakeFault, read_whole};
 use script_text::{ScriptFault, ScriptRead, read_script};
 use std::alloc::Global;
 
@@ -32,7 +30,7 @@ fn read_bytes<I: Source>(alloc: Global, source: &mut I) -> Result<Vec<u8>, Statu
     }
 }
 
-/// The script that bytes are, of which each line is run.
+/// The script that bytes are.
 fn parse(alloc: Global, bytes: &[u8]) -> Result<ScriptRead, Status>
     requires { length bytes.now ≤ 16777216 }
     ensures read { IfOk result (IsScriptRead bytes.now) }
@@ -41,25 +39,15 @@ fn parse(alloc: Global, bytes: &[u8]) -> Result<ScriptRead, Status>
     ensures early { IfErr result IsOfScript }
     ensures fault { IsErrOf result (Status.ReadFault Which.Script) → ⊥ }
 {
-    let read = match read_script(alloc, bytes) {
-        Ok(read) => read,
-        Err(ScriptFault::NoMemory) => return Err(Status::NoMemory),
-        Err(ScriptFault::At { line, byte, kind }) => {
-            return Err(Status::BadScript { line, byte, kind });
-        }
-    };
-    match first_unrun(bytes) {
-        None => Ok(read),
-        Some(line) => Err(Status::BadScript {
-            line,
-            byte: 0,
-            kind: ScriptKind::Word,
-        }),
+    match read_script(alloc, bytes) {
+        Ok(read) => Ok(read),
+        Err(ScriptFault::NoMemory) => Err(Status::NoMemory),
+        Err(ScriptFault::At { line, byte, kind }) => Err(Status::BadScript { line, byte, kind }),
     }
 }
 
-/// Reads a script of which each line is run, to the end of its source.
-pub(crate) fn read_run_script<I: Source>(
+/// Reads a script to the end of its source.
+pub(crate) fn read_whole_script<I: Source>(
     alloc: Global,
     source: &mut I,
 ) -> Result<ScriptRead, Status>
@@ -67,7 +55,8 @@ pub(crate) fn read_run_script<I: Source>(
     ensures script { IfOk result (λ read. IsScript read.profiles read.script) }
     ensures err { IfErr result (λ status. IfSome (I.left source.old) (ScriptSays status)) }
     ensures early { IfErr result IsOfScript }
-    ensures fault { IsErrOf result (Status.ReadFault Which.Script) → Rose (I.faults source.old) (I.faults source.new) }
+    ensures fault { IsErrOf result (Status.ReadFault Which.Script) →
+        Rose (I.faults source.old) (I.faults source.new) }
 {
     let bytes = match read_bytes(alloc, source) {
         Ok(bytes) => bytes,

@@ -1,27 +1,12 @@
-//! Runs in memory: the whole text of two, and how others end.
+//! Runs in memory: one that ends well, and how others end.
 use crate::{Status, fault_text, run};
 use gh_base::{FreeGate, MemFiles, MemSink, MemSource};
 use std::alloc::{AllocError, Global};
+use std::thread::Threads;
 
 /// Three towers in a row, 1111949 mm apart, on roads where cars go 60 km/h.
 const MAP: &str =
     "n1 y0 x0\nn2 y0 x0.01\nn3 y0 x0.02\nw10 Thighway=secondary Nn1,n2\nw11 Thighway=secondary Nn2,n3\n";
-
-/// Two towers, and a road that leads from the first to the second alone.
-const ONE_WAY: &str = "n1 y0 x0\nn2 y0 x0.01\nw10 Thighway=secondary,oneway=yes Nn1,n2\n";
-
-/// Two roads beside each other, 222 m apart.
-const PARALLEL: &str =
-    "n1 y0 x0\nn2 y0 x0.01\nn3 y0.002 x0\nn4 y0.002 x0.01\nw10 Thighway=secondary Nn1,n2\nw11 Thighway=secondary Nn3,n4\n";
-
-/// A road for cars alone.
-const MOTORWAY: &str = "n1 y0 x0\nn2 y0 x0.01\nw10 Thighway=motorway Nn1,n2\n";
-
-/// A road where cars go 50 km/h.
-const TERTIARY: &str = "n1 y0 x0\nn2 y0 x0.01\nw10 Thighway=tertiary Nn1,n2\n";
-
-/// A road where cars go 45 km/h, since 50 is the most that is allowed.
-const SLOW: &str = "n1 y0 x0\nn2 y0 x0.01\nw10 Thighway=tertiary,maxspeed=50 Nn1,n2\n";
 
 const WORDS: [&str; 5] = ["serve", "--map", "m", "--form", "plain"];
 
@@ -32,6 +17,8 @@ const TO_PLAIN: [&str; 7] = ["convert", "--map", "m", "--form", "pbf", "--to", "
 const NONE: [u64; 0] = [];
 
 const FIRST: [u64; 1] = [1];
+
+const SECOND: [u64; 1] = [2];
 
 /// What a run is given, and which calls of the outside fail.
 #[derive(Clone, Copy)]
@@ -67,13 +54,18 @@ fn owned(alloc: Global, words: &[&str]) -> Result<Vec<String>, AllocError> {
 }
 
 /// How a run ended, in the words that a user reads, and what the sink holds.
-fn outcome(alloc: Global, case: &Case) -> Result<(String, Vec<u8>), AllocError> {
+fn outcome<R: Threads + Sync>(
+    rt: &R,
+    alloc: Global,
+    case: &Case,
+) -> Result<(String, Vec<u8>), AllocError> {
     let words = owned(alloc, case.words)?;
     let step = case.step.max(1);
     let mut files = MemFiles::new("m", case.map, &NONE, step, case.map_fails);
     let mut script = MemSource::new(case.script, step, case.script_fails);
     let mut sink = MemSink::new(alloc, step, case.sink_fails);
     let status = run(
+        rt,
         alloc,
         words.as_slice(),
         &mut files,
@@ -96,11 +88,15 @@ fn outcome(alloc: Global, case: &Case) -> Result<(String, Vec<u8>), AllocError> 
 #[test]
 fn a_route_is_printed_and_an_empty_script_has_a_journal(rt: HostRuntime) -> Result<(), AllocError> {
     let script = "actor a\na route n1 n3\na route n1 n9\n";
-    let (text, held) = outcome(rt.alloc(), &plain_case(MAP.as_bytes(), script.as_bytes()))?;
+    let (text, held) = outcome(
+        &rt,
+        rt.alloc(),
+        &plain_case(MAP.as_bytes(), script.as_bytes()),
+    )?;
     assert_eq!(rt; text.as_str(), "done");
     let wanted = "a 1 0 route 133434 2223898 2 0+ 1+\na 2 0 nonode 9\njournal 0\n";
     assert_eq!(rt; held.as_slice(), wanted.as_bytes());
-    let (text, held) = outcome(rt.alloc(), &plain_case(MAP.as_bytes(), b""))?;
+    let (text, held) = outcome(&rt, rt.alloc(), &plain_case(MAP.as_bytes(), b""))?;
     assert_eq!(rt; text.as_str(), "done");
     assert_eq!(rt; held.as_slice(), b"journal 0\n".as_slice());
     Ok(())
@@ -108,7 +104,6 @@ fn a_route_is_printed_and_an_empty_script_has_a_journal(rt: HostRuntime) -> Resu
 
 #[test]
 fn each_refusal_has_its_text_and_writes_nothing(rt: HostRuntime) -> Result<(), AllocError> {
-    let alloc = rt.alloc();
     let map = MAP.as_bytes();
     let cases = [
         (
@@ -160,35 +155,39 @@ fn each_refusal_has_its_text_and_writes_nothing(rt: HostRuntime) -> Result<(), A
         ),
     ];
     for (case, wanted) in &cases {
-        let (text, held) = outcome(alloc, case)?;
+        let (text, held) = outcome(&rt, rt.alloc(), case)?;
         assert_eq!(rt; text.as_str(), *wanted);
         assert_eq!(rt; held.len(), 0, "{wanted}");
     }
     Ok(())
 }
 
-/// Where each call moves a byte, the sink has all bytes that were given before the call that failed.
+/// A sink that takes whole pieces, and whose second call fails, has the replies of the first phase.
 #[test]
-fn a_call_that_fails_is_told_and_what_was_written_stands(
-    rt: HostRuntime,
-) -> Result<(), AllocError> {
+fn phases_before_a_failed_write_stand(rt: HostRuntime) -> Result<(), AllocError> {
+    let script = "actor f\nactor a\nf lower 1+ 30\nsync\na route n1 n3\n";
+    let case = Case {
+        sink_fails: &SECOND,
+        step: 4096,
+        ..plain_case(MAP.as_bytes(), script.as_bytes())
+    };
+    let (text, held) = outcome(&rt, rt.alloc(), &case)?;
+    assert_eq!(rt; text.as_str(), "gh: cannot write");
+    assert_eq!(rt; held.as_slice(), b"f 1 1 lowered\n".as_slice());
+    Ok(())
+}
+
+#[test]
+fn each_call_of_a_source_that_fails_is_told(rt: HostRuntime) -> Result<(), AllocError> {
     let script = "actor a\na route n1 n3\n";
-    let whole = "a 1 0 route 133434 2223898 2 0+ 1+\njournal 0\n";
     let case = Case {
         step: 1,
         ..plain_case(MAP.as_bytes(), script.as_bytes())
     };
-    for place in 0..whole.len() {
-        let fails = [place as u64 + 1];
-        let sink_fails = fails.as_slice();
-        let (text, held) = outcome(rt.alloc(), &Case { sink_fails, ..case })?;
-        assert_eq!(rt; text.as_str(), "gh: cannot write");
-        assert_eq!(rt; held.as_slice(), &whole.as_bytes()[..place]);
-    }
     for place in 0..MAP.len() {
         let fails = [place as u64 + 1];
         let map_fails = fails.as_slice();
-        let (text, held) = outcome(rt.alloc(), &Case { map_fails, ..case })?;
+        let (text, held) = outcome(&rt, rt.alloc(), &Case { map_fails, ..case })?;
         assert_eq!(rt; text.as_str(), "gh: cannot read the map");
         assert_eq!(rt; held.len(), 0);
     }
@@ -196,6 +195,7 @@ fn a_call_that_fails_is_told_and_what_was_written_stands(
         let fails = [place as u64 + 1];
         let script_fails = fails.as_slice();
         let (text, held) = outcome(
+            &rt,
             rt.alloc(),
             &Case {
                 script_fails,
@@ -216,50 +216,9 @@ fn a_script_of_one_byte_too_many_is_too_large(rt: HostRuntime) -> Result<(), All
         step: 4096,
         ..plain_case(MAP.as_bytes(), newlines.as_slice())
     };
-    let (text, held) = outcome(alloc, &case)?;
+    let (text, held) = outcome(&rt, rt.alloc(), &case)?;
     assert_eq!(rt; text.as_str(), "gh: script bytes over 16777216");
     assert_eq!(rt; held.len(), 0);
-    Ok(())
-}
-
-#[test]
-fn replies_are_those_worked_out_by_hand(rt: HostRuntime) -> Result<(), AllocError> {
-    for (map, script, wanted) in [
-        (
-            MAP,
-            "actor a\na route n1 n1\na labels n1 n2\na route 0,0.004 n1\na route 0,0.004 n2\n",
-            "a 1 0 route 0 0 0\na 2 0 labels 66717 0 66717 66717\na 3 0 route 26687 444779 1 0-\na 4 0 route 40031 667170 2 0+\njournal 0\n",
-        ),
-        (
-            ONE_WAY,
-            "actor a\na route 0,0.005 0,0.005\na route 0,0.006 0,0.004\na route n2 n1\na route n2 n2\n",
-            "a 1 0 route 0 0 1 0+\na 2 0 noroute 2\na 3 0 noroute 1\na 4 0 route 0 0 0\njournal 0\n",
-        ),
-        (
-            PARALLEL,
-            "actor a\na route 0.001,0.004 n1\na route n1 n3\n",
-            "a 1 0 route 26687 444777 1 0-\na 2 0 noroute 2\njournal 0\n",
-        ),
-        (
-            MOTORWAY,
-            "profile bike bike\nactor a\na route 0,0 0,0.01\na route n1 0,0\n",
-            "a 1 0 nosnap 1\na 2 0 nosnap 2\njournal 0\n",
-        ),
-        (
-            TERTIARY,
-            "profile car car {\"distance_influence\":70}\nactor a\na route n1 n2\na model car {\"distance_influence\":69}\na model car {\"distance_influence\":70}\na model car {\n",
-            "a 1 0 route 157898 1111949 1 0+\na 2 0 speeding distance_influence 0 69\na 3 0 taken\na 4 0 badjson 1 End\njournal 0\n",
-        ),
-        (
-            SLOW,
-            "actor a\na route n1 n2\na model car {\"speed\":[{\"if\":\"true\",\"limit_to\":\"max_speed * 0.5\"}]}\na route n1 n2\na model car {\"speed\":[{\"if\":\"true\",\"multiply_by\":\"lanez * 1\"}]}\na route n1 n2\n",
-            "a 1 0 route 88956 1111949 1 0+\na 2 0 taken\na 3 0 route 160121 1111949 1 0+\na 4 0 badmodel speed 1 0 Name\na 5 0 route 160121 1111949 1 0+\njournal 0\n",
-        ),
-    ] {
-        let (text, held) = outcome(rt.alloc(), &plain_case(map.as_bytes(), script.as_bytes()))?;
-        assert_eq!(rt; text.as_str(), "done");
-        assert_eq!(rt; held.as_slice(), wanted.as_bytes(), "{script}");
-    }
     Ok(())
 }
 
@@ -269,7 +228,8 @@ fn a_map_is_converted_both_ways(rt: HostRuntime) -> Result<(), AllocError> {
     // A way whose node isn't there is in the grammar: nothing is imported.
     let map = "n1 y0 x0\nn2 y0 x0.01\nw10 Thighway=secondary Nn1,n2\nw11 Nn1,n9\n";
     let (text, file) = outcome(
-        alloc,
+        &rt,
+        rt.alloc(),
         &Case {
             words: &TO_PBF,
             ..plain_case(map.as_bytes(), b"")
@@ -277,7 +237,8 @@ fn a_map_is_converted_both_ways(rt: HostRuntime) -> Result<(), AllocError> {
     )?;
     assert_eq!(rt; text.as_str(), "done");
     let (text, held) = outcome(
-        alloc,
+        &rt,
+        rt.alloc(),
         &Case {
             words: &TO_PLAIN,
             ..plain_case(file.as_slice(), b"")
@@ -290,45 +251,41 @@ fn a_map_is_converted_both_ways(rt: HostRuntime) -> Result<(), AllocError> {
 
 #[test]
 fn a_conversion_that_is_refused_writes_nothing(rt: HostRuntime) -> Result<(), AllocError> {
-    for (words, map, map_fails, sink_fails, wanted) in [
+    let cases = [
         (
-            &TO_PBF,
-            "n1 y0\n",
-            &NONE[..],
-            &NONE[..],
+            Case {
+                words: &TO_PBF,
+                ..plain_case(b"n1 y0\n", b"")
+            },
             "gh: map line 1 byte 5: Missing",
         ),
         (
-            &TO_PLAIN,
-            "",
-            &NONE[..],
-            &NONE[..],
+            Case {
+                words: &TO_PLAIN,
+                ..plain_case(b"", b"")
+            },
             "gh: map byte 0: NoHeader",
         ),
         (
-            &TO_PBF,
-            MAP,
-            &FIRST[..],
-            &NONE[..],
+            Case {
+                words: &TO_PBF,
+                map_fails: &FIRST,
+                ..plain_case(MAP.as_bytes(), b"")
+            },
             "gh: cannot read the map",
         ),
         (
-            &TO_PLAIN,
-            "",
-            &NONE[..],
-            &FIRST[..],
-            "gh: map byte 0: NoHeader",
+            Case {
+                words: &TO_PBF,
+                sink_fails: &FIRST,
+                ..plain_case(MAP.as_bytes(), b"")
+            },
+            "gh: cannot write",
         ),
-        (&TO_PBF, MAP, &NONE[..], &FIRST[..], "gh: cannot write"),
-    ] {
-        let case = Case {
-            words,
-            map_fails,
-            sink_fails,
-            ..plain_case(map.as_bytes(), b"")
-        };
-        let (text, held) = outcome(rt.alloc(), &case)?;
-        assert_eq!(rt; text.as_str(), wanted);
+    ];
+    for (case, wanted) in &cases {
+        let (text, held) = outcome(&rt, rt.alloc(), case)?;
+        assert_eq!(rt; text.as_str(), *wanted);
         assert_eq!(rt; held.len(), 0, "{wanted}");
     }
     Ok(())

@@ -3,7 +3,7 @@ use Rattle.gh_serve.proofs.Complete.{serves_complete, converts_complete}
 
 pub returns-in-Ok-Serve-clause-complete : goal.returns-in-Ok-Serve-clause-complete
 returns-in-Ok-Serve-clause-complete g c =
-    rw (c.in-Ok-Serve.ensures.request, c.in-Ok-Serve.field-0-is) (serves_complete c.serve_map.result c.in-Ok-Serve.form _ _ _ _ _ _ _ _ _ _ c.serve_map.ensures.statuses c.serve_map.ensures.map c.serve_map.ensures.script c.serve_map.ensures.open c.serve_map.ensures.read_map c.serve_map.ensures.read_script c.serve_map.ensures.write)
+    rw (c.in-Ok-Serve.ensures.request, c.in-Ok-Serve.field-0-is) (serves_complete c.serve_map.result c.in-Ok-Serve.form _ _ _ _ _ _ _ _ _ _ c.serve_map.ensures.statuses c.serve_map.ensures.map c.serve_map.ensures.script c.serve_map.ensures.labels c.serve_map.ensures.open c.serve_map.ensures.read_map c.serve_map.ensures.read_script c.serve_map.ensures.write)
 
 pub returns-in-Ok-Convert-clause-converted_complete : goal.returns-in-Ok-Convert-clause-converted_complete
 returns-in-Ok-Convert-clause-converted_complete g c =
