@@ -1,7 +1,10 @@
 //! Runs in memory: one that ends well, and how others end.
 use crate::{Status, fault_text, run};
-use gh_base::{FreeGate, MemFiles, MemSink, MemSource};
+use gh_base::{FreeGate, Gate, MemFiles, MemSink, MemSource};
 use std::alloc::{AllocError, Global};
+use std::sync::atomic::AtomicU64;
+use std::sync::atomic::Ordering::SeqCst;
+use std::thread;
 use std::thread::Threads;
 
 /// Three towers in a row, 1111949 mm apart, on roads where cars go 60 km/h.
@@ -59,6 +62,16 @@ fn outcome<R: Threads + Sync>(
     alloc: Global,
     case: &Case,
 ) -> Result<(String, Vec<u8>), AllocError> {
+    outcome_at(rt, alloc, case, &FreeGate)
+}
+
+/// The same with a gate round each command.
+fn outcome_at<R: Threads + Sync, G: Gate>(
+    rt: &R,
+    alloc: Global,
+    case: &Case,
+    gate: &G,
+) -> Result<(String, Vec<u8>), AllocError> {
     let words = owned(alloc, case.words)?;
     let step = case.step.max(1);
     let mut files = MemFiles::new("m", case.map, &NONE, step, case.map_fails);
@@ -71,7 +84,7 @@ fn outcome<R: Threads + Sync>(
         &mut files,
         &mut script,
         &mut sink,
-        &FreeGate,
+        gate,
     );
     let text = match &status {
         Status::Done => String::from_str(alloc, "done")?,
@@ -288,5 +301,63 @@ fn a_conversion_that_is_refused_writes_nothing(rt: HostRuntime) -> Result<(), Al
         assert_eq!(rt; text.as_str(), *wanted);
         assert_eq!(rt; held.len(), 0, "{wanted}");
     }
+    Ok(())
+}
+
+/// Holds the first actor's first command until the second's first was answered, and the second's second until the
+/// first's first was answered.
+#[derive(Drop)]
+struct Turns {
+    by_first: AtomicU64,
+    by_second: AtomicU64,
+    gave_up: AtomicU64,
+}
+
+impl Turns {
+    fn wait(&self, answered: &AtomicU64) {
+        for _ in 0..1_000_000_000u64 {
+            if answered.load(SeqCst) > 0 {
+                return;
+            }
+            thread::yield_now();
+        }
+        self.gave_up.fetch_add(1, SeqCst);
+    }
+}
+
+impl Gate for Turns {
+    fn before(&self, actor: u32, number: u32) {
+        if actor == 0 && number == 1 {
+            self.wait(&self.by_second);
+        }
+        if actor == 1 && number == 2 {
+            self.wait(&self.by_first);
+        }
+    }
+
+    fn after(&self, actor: u32, _number: u32) {
+        if actor == 0 {
+            self.by_first.fetch_add(1, SeqCst);
+        } else {
+            self.by_second.fetch_add(1, SeqCst);
+        }
+    }
+}
+
+#[test]
+fn actors_of_a_phase_run_at_once(rt: HostRuntime) -> Result<(), AllocError> {
+    let script = "actor s\nactor f\ns route n1 n3\nf lower 0+ 50\nf lower 0+ 40\n";
+    let gate = Turns {
+        by_first: AtomicU64::new(0),
+        by_second: AtomicU64::new(0),
+        gave_up: AtomicU64::new(0),
+    };
+    let case = plain_case(MAP.as_bytes(), script.as_bytes());
+    let (text, held) = outcome_at(&rt, rt.alloc(), &case, &gate)?;
+    assert_eq!(rt; text.as_str(), "done");
+    assert_eq!(rt; gate.gave_up.load(SeqCst), 0);
+    let wanted =
+        "s 1 1 route 146778 2223898 2 0+ 1+\nf 1 1 lowered\nf 2 2 lowered\njournal 2\n1 f 1 lower 0+ 50000\n2 f 2 lower 0+ 40000\n";
+    assert_eq!(rt; held.as_slice(), wanted.as_bytes());
     Ok(())
 }
