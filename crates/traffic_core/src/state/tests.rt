@@ -128,6 +128,9 @@ fn a_preparation_that_leaves_its_slot_stays_out(rt: HostRuntime) -> Result<(), F
     assert_eq!(rt; slot, None);
     let slot = slot_after(&rt, &mut state, &mut list, published(alloc, &first)?)?;
     assert_eq!(rt; slot, None);
-    assert_eq!(rt; state.limit(FORWARD), 40_000);
+    assert_eq!(rt;
+        state.snapshot(alloc)?.as_slice(),
+        [40_000, 60_000, 60_000, 60_000].as_slice()
+    );
     Ok(())
 }
