@@ -104,29 +104,54 @@ fn a_preparation_that_leaves_its_slot_stays_out(rt: HostRuntime) -> Result<(), F
     let Some(ground) = ground_of(alloc, ROW, Vehicle::Car) else {
         return Err(Fail::new("no ground"));
     };
-    let mut state = RoadState::with_room(alloc, &ground, 9)?;
+    let mut state = RoadState::with_room(alloc, &ground, 4)?;
     let mut list = EntryList::new(alloc);
     let slot = slot_after(&rt, &mut state, &mut list, lower(30_000))?;
     assert_eq!(rt; slot, None);
-    let first = Shared::new(alloc, prep_at(alloc, CAR, state.snapshot(alloc)?)?)?;
-    let slot = slot_after(&rt, &mut state, &mut list, published(alloc, &first)?)?;
+    let prep = Shared::new(alloc, prep_at(alloc, CAR, state.snapshot(alloc)?)?)?;
+    let slot = slot_after(&rt, &mut state, &mut list, published(alloc, &prep)?)?;
     assert_eq!(rt; slot, Some(2));
     // At 40 km/h its snapshot of 30 is below the limit, and at 30 it isn't again.
     let slot = slot_after(&rt, &mut state, &mut list, restore(40_000))?;
     assert_eq!(rt; slot, None);
-    let second = Shared::new(alloc, prep_at(alloc, CAR, state.snapshot(alloc)?)?)?;
     let slot = slot_after(&rt, &mut state, &mut list, lower(30_000))?;
     assert_eq!(rt; slot, None);
+    Ok(())
+}
+
+#[test]
+fn an_older_preparation_is_published_anew_over_a_newer(rt: HostRuntime) -> Result<(), Fail> {
+    let alloc = rt.alloc();
+    let Some(ground) = ground_of(alloc, ROW, Vehicle::Car) else {
+        return Err(Fail::new("no ground"));
+    };
+    let mut state = RoadState::with_room(alloc, &ground, 4)?;
+    let mut list = EntryList::new(alloc);
+    let first = Shared::new(alloc, prep_at(alloc, CAR, state.snapshot(alloc)?)?)?;
+    let slot = slot_after(&rt, &mut state, &mut list, lower(30_000))?;
+    assert_eq!(rt; slot, None);
+    let second = Shared::new(alloc, prep_at(alloc, CAR, state.snapshot(alloc)?)?)?;
     let slot = slot_after(&rt, &mut state, &mut list, published(alloc, &second)?)?;
-    assert_eq!(rt; slot, Some(5));
-    // The older one, published anew over the newer.
+    assert_eq!(rt; slot, Some(2));
     let slot = slot_after(&rt, &mut state, &mut list, published(alloc, &first)?)?;
-    assert_eq!(rt; slot, Some(6));
+    assert_eq!(rt; slot, Some(3));
     let held = state.preparation(CAR, &list);
     assert!(rt; held.is_some_and(|prep| prep.is_same(first.prep())));
-    let slot = slot_after(&rt, &mut state, &mut list, restore(40_000))?;
-    assert_eq!(rt; slot, None);
-    let slot = slot_after(&rt, &mut state, &mut list, published(alloc, &first)?)?;
+    Ok(())
+}
+
+#[test]
+fn a_preparation_below_the_limits_enters_no_slot(rt: HostRuntime) -> Result<(), Fail> {
+    let alloc = rt.alloc();
+    let Some(ground) = ground_of(alloc, ROW, Vehicle::Car) else {
+        return Err(Fail::new("no ground"));
+    };
+    let mut state = RoadState::with_room(alloc, &ground, 3)?;
+    let mut list = EntryList::new(alloc);
+    slot_after(&rt, &mut state, &mut list, lower(30_000))?;
+    let prep = Shared::new(alloc, prep_at(alloc, CAR, state.snapshot(alloc)?)?)?;
+    slot_after(&rt, &mut state, &mut list, restore(40_000))?;
+    let slot = slot_after(&rt, &mut state, &mut list, published(alloc, &prep)?)?;
     assert_eq!(rt; slot, None);
     assert_eq!(rt;
         state.snapshot(alloc)?.as_slice(),
