@@ -5,3 +5,4 @@ pub mod Paging
 pub mod Pigeons
 pub mod Places
 pub mod Tables
+pub mod Narrowing

@@ -1,3 +1,4 @@
 pub mod Heaps
+pub mod Items
 pub mod Keys
 pub mod Pages

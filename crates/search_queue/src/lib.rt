@@ -8,6 +8,7 @@
 #![tactic(auto)]
 
 mod heap;
+mod items;
 mod node_table;
 mod pages;
 mod queue;
