@@ -8,3 +8,4 @@ pub mod Prepared
 pub mod Unique
 pub mod Unpacking
 pub mod Foremost
+pub mod InGrains

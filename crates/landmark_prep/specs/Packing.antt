@@ -17,6 +17,11 @@ packed grain (Some label) = min (label / grain) 65534
 abbrev pub unpacked : ℕ → ℕ → Option ℕ
 unpacked grain number = if number == 65535 then None else Some (grain * number)
 
+-- numbers of grains in ms
+abbrev pub in_ms : ℕ → Option ℕ → Option ℕ
+in_ms grain None = None
+in_ms grain (Some grains) = Some (grain * grains)
+
 abbrev pub unpacked_labels : ℕ → PackedLabels → Labels
 unpacked_labels grain labels = record { from = map (unpacked grain) labels.from; to = map (unpacked grain) labels.to }
 

@@ -3,10 +3,12 @@ ghost use Rattle.std.specs.Prelude.{◌≡◌, ◌≢◌, ℕ, ◌<◌, ◌≤�
 ghost use Rattle.gh_base.specs.Networks.{Network};
 ghost use Rattle.walk_rules.specs.Walks.{NoWalk, IsAtMostEachWalk};
 ghost use Rattle.landmark_prep.specs.Preparations.{nodes_of};
-ghost use Rattle.landmark_prep.specs.Bounds.{AreFit, over, greater, bound_of, bound_by, labels_at, picked};
+ghost use Rattle.landmark_prep.specs.Packing.{in_ms};
+ghost use Rattle.landmark_prep.specs.Bounds.{AreFit, greater, bound_of, bound_by, labels_at, picked};
 ghost use Rattle.landmark_prep.specs.Choosing.{SaysMore, AreActive, IsForemost};
 
 use crate::active::{Active, MOST_ACTIVE};
+use crate::labels::grains_over;
 use crate::preparation::Prep;
 use gh_base::NodeId;
 
@@ -78,10 +80,10 @@ impl Prep {
     {
         let mut most = 0;
         for place in active.as_slice() {
-            let here = self.bound_from_one(*place, node, target)?;
+            let here = self.grains_from_one(*place, node, target)?;
             most = here.max(most);
         }
-        Some(most)
+        self.ms(Some(most))
     }
 
     /// What one landmark says.
@@ -91,31 +93,27 @@ impl Prep {
         requires target { target.0 < nodes_of self.now.labels }
         ensures { result ≡ bound_of (labels_at self.now.labels landmark) node.0 target.0 }
     {
-        greater_of(
-            how_far_over(
-                self.label_from(landmark, node),
-                self.label_from(landmark, target),
-            ),
-            how_far_over(
-                self.label_to(landmark, target),
-                self.label_to(landmark, node),
-            ),
-        )
+        self.ms(self.grains_from_one(landmark, node, target))
+    }
+
+    /// The same, as a number of grains.
+    fn grains_from_one(&self, landmark: u32, node: NodeId, target: NodeId) -> Option<u16>
+        requires landmark { landmark < length self.now.landmarks }
+        requires node { node.0 < nodes_of self.now.labels }
+        requires target { target.0 < nodes_of self.now.labels }
+        ensures { in_ms self.now.grain result ≡ bound_of (labels_at self.now.labels landmark) node.0 target.0 }
+    {
+        let from_node = self.grains_from(landmark, node);
+        let from_target = self.grains_from(landmark, target);
+        let to_node = self.grains_to(landmark, node);
+        let to_target = self.grains_to(landmark, target);
+        let away = grains_over(from_node, from_target);
+        let home = grains_over(to_target, to_node);
+        greater_of(away, home)
     }
 }
 
-/// How far the second is over the first.
-fn how_far_over(first: Option<u64>, second: Option<u64>) -> Option<u64>
-    ensures { result ≡ over first second }
-{
-    match (first, second) {
-        (None, _) => Some(0),
-        (Some(_), None) => None,
-        (Some(x), Some(z)) => Some(z.saturating_sub(x)),
-    }
-}
-
-fn greater_of(first: Option<u64>, second: Option<u64>) -> Option<u64>
+fn greater_of(first: Option<u16>, second: Option<u16>) -> Option<u16>
     ensures { result ≡ greater first second }
 {
     match (first, second) {

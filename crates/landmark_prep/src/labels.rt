@@ -1,6 +1,7 @@
 //! Labels as they are kept.
-ghost use Rattle.std.specs.Prelude.{◌≡◌, ◌↔◌, ◌<◌, ◌≤◌, ◌^◌, [], ◌∷◌, ◌++◌, IsTrue, length, slice_index, OnOk, OnErr};
-ghost use Rattle.landmark_prep.specs.Packing.{packed, unpacked, packed_at};
+ghost use Rattle.std.specs.Prelude.{◌≡◌, ℕ, ◌↔◌, ◌<◌, ◌≤◌, ◌^◌, [], ◌∷◌, ◌++◌, IsTrue, length, slice_index, OnOk, OnErr};
+ghost use Rattle.landmark_prep.specs.Bounds.{over};
+ghost use Rattle.landmark_prep.specs.Packing.{packed, unpacked, packed_at, in_ms};
 
 use gh_base::{NoMemory, NodeId, Sequence};
 use std::alloc::Global;
@@ -103,6 +104,32 @@ pub fn pack(label: Option<u64>, grain: u64) -> u16
     match label {
         None => NO_LABEL,
         Some(label) => (label / grain).min(MOST_GRAINS) as u16,
+    }
+}
+
+/// How far the second number of grains is over the first: 0 where the first stands for no label, None where only the
+/// second does.
+#[tactic(auto, using(crate::proofs::InGrains::over_first, crate::proofs::InGrains::over_second, crate::proofs::InGrains::over_both))]
+pub(crate) fn grains_over(first: u16, second: u16) -> Option<u16>
+    ensures { (grain : ℕ) → in_ms grain result ≡ over (unpacked grain first) (unpacked grain second) }
+{
+    if first == NO_LABEL {
+        return Some(0);
+    }
+    if second == NO_LABEL {
+        return None;
+    }
+    Some(second.saturating_sub(first))
+}
+
+/// A number of grains in ms.
+pub(crate) fn in_ms(grain: u64, grains: Option<u16>) -> Option<u64>
+    requires { grain ≤ 2 ^ 46 }
+    ensures { result ≡ in_ms grain grains }
+{
+    match grains {
+        None => None,
+        Some(grains) => Some(grain * u64::from(grains)),
     }
 }
 

@@ -1,11 +1,12 @@
 //! A preparation, and how it is read.
 ghost use Rattle.std.specs.Prelude.{◌≡◌, ◌↔◌, ◌<◌, ◌≤◌, IsTrue, length, map};
 ghost use Rattle.walk_rules.specs.Distances.{label_at};
-ghost use Rattle.landmark_prep.specs.Packing.{unpacked_labels, AreParts};
+ghost use Rattle.landmark_prep.specs.Packing as spec;
+ghost use Rattle.landmark_prep.specs.Packing.{unpacked, unpacked_labels, AreParts};
 ghost use Rattle.landmark_prep.specs.Preparations.{nodes_of};
 ghost use Rattle.landmark_prep.specs.Bounds.{labels_at};
 
-use crate::labels::{LabelTable, unpack};
+use crate::labels::{LabelTable, in_ms, unpack};
 use gh_base::{LimitList, NodeId};
 use landmark_choice::Chosen;
 use std::marker::Model;
@@ -125,6 +126,31 @@ impl Prep {
         ensures { result ≡ nodes_of self.now.labels }
     {
         self.labels.at(0).from.len() as u32
+    }
+
+    /// The number of grains that stands for the distance from a landmark to a node.
+    pub(crate) fn grains_from(&self, landmark: u32, node: NodeId) -> u16
+        requires landmark { landmark < length self.now.landmarks }
+        requires node { node.0 < nodes_of self.now.labels }
+        ensures { unpacked self.now.grain result ≡ label_at (labels_at self.now.labels landmark).from node.0 }
+    {
+        *self.labels.at(landmark).from.get(node.0 as usize)
+    }
+
+    /// The number of grains that stands for the distance from a node to a landmark.
+    pub(crate) fn grains_to(&self, landmark: u32, node: NodeId) -> u16
+        requires landmark { landmark < length self.now.landmarks }
+        requires node { node.0 < nodes_of self.now.labels }
+        ensures { unpacked self.now.grain result ≡ label_at (labels_at self.now.labels landmark).to node.0 }
+    {
+        *self.labels.at(landmark).to.get(node.0 as usize)
+    }
+
+    /// A number of its grains in ms.
+    pub(crate) fn ms(&self, grains: Option<u16>) -> Option<u64>
+        ensures { result ≡ spec.in_ms self.now.grain grains }
+    {
+        in_ms(self.grain, grains)
     }
 
     /// The distance from a landmark to a node in ms, in whole grains; None where no walk leads there.

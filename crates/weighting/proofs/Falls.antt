@@ -24,17 +24,10 @@ use Rattle.weighting.specs.Rules.{Rule, alone}
 use Rattle.weighting.specs.Weights.{values_at, areas_in, list_of, run_of, run_if, run_by, first_speed, first_priority, influence_by, time_at, distance_share, weight_if, weight_by, WeightsFit}
 use Rattle.weighting.specs.Roads.{hop_of, network_of, opposite}
 use Rattle.weighting.specs.RoadFacts.{each_hop, hop_to}
+use Rattle.weighting.proofs.Quotients.{least_quotient, quotient_within}
 use Rattle.weighting.proofs.Stored.{values_are_stored}
 use Rattle.weighting.specs.SlowRoads.{OnlySlows, IsSlowing, IsNoneOrAtLeast, HasStored, AreNowhereAbove, NoWeightFalls, NoHopIsFaster}
 use Rattle.weighting.proofs.Turned.{contains_map}
-
--- the least number of parts of b that hold n
-least_quotient : (n b q r : ℕ) → n ≤ q * b → r * b < n + b → r ≤ q
-least_quotient n b q r holds least =
-    let e : (q + 1) * b ≡ q * b + 1 * b = add-mul q 1 b in
-    let more : r * b < (q + 1) * b = omega arith in
-    let below : r < q + 1 = lt_of_mul-lt-mul_right b more in
-    omega arith
 
 -- of a greater divisor the quotient is no greater
 quotient_falls : (n a b : ℕ) → 0 < a → a ≤ b → div_ceil n b ≤ div_ceil n a
@@ -184,10 +177,6 @@ no_hop_is_faster side rule graph limits earlier slowing facts above node hop c s
     let w = some_at (hop_of side rule limits graph by).weight (f by).weight (hop_falls side rule graph limits earlier slowing stored above by (around_edge graph node by facts b)) is in
     (f by, contains_map f (around_of graph node) by b, w.0, hop_to side (alone rule) earlier graph by ∙ sym (hop_to side rule limits graph by), w.1))
     hop c some
-
--- a quotient rounded up is no more than what is divided
-quotient_within : (n a : ℕ) → 0 < a → div_ceil n a ≤ n
-quotient_within n a some = least_quotient n a n (div_ceil n a) (le-mul_of_pos_right n some) (div_ceil_times n a some).1
 
 time_fits : (speed priority mm : ℕ) → 0 < speed → 0 < priority → time_at speed priority mm ≤ 3600 * mm * 1000000
 unfolding time_at

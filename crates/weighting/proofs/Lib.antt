@@ -1,5 +1,6 @@
 pub mod Falls
 mod Made
+mod Plain
+mod Quotients
 mod Stored
 pub mod Turned
-mod Unmoved

@@ -1,5 +1,6 @@
 pub mod Rules
 pub mod Weights
+pub mod Plain
 pub mod Roads
 pub mod RoadFacts
 pub mod SlowRoads

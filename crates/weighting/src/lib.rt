@@ -8,6 +8,7 @@
 mod laws;
 mod opening;
 mod profile;
+mod quotient;
 #[cfg(test)]
 mod tests;
 mod weight_view;

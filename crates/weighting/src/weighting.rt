@@ -1,19 +1,19 @@
 //! The weight of a directed edge.
 ghost use Rattle.std.specs.Prelude.{◌≡◌, ◌*◌, ◌<◌, ◌≤◌, ◌^◌, min, length, option_map, unwrap_or};
 ghost use Rattle.std.specs.Option.{option_or};
-ghost use Rattle.encoded_values.specs.Values as stored;
 ghost use Rattle.model_eval.specs.Models.{IsModel};
 ghost use Rattle.model_eval.specs.declared.custom_model.Running.TheVariants as running;
 ghost use Rattle.weighting.specs.Rules.{rule_of};
+ghost use Rattle.weighting.specs.Plain as plain;
 ghost use Rattle.weighting.specs.Roads as roads;
 ghost use Rattle.weighting.specs.Weights as spec;
 
 use crate::opening::Opening;
 use crate::profile::Profile;
+use crate::quotient::{guesses_by_kmh, quotient_of};
 use base_graph::BaseGraph;
-use encoded_values::DirValues;
 use gh_base::{DirEdge, EdgeId, Limits, Vehicle};
-use model_eval::{CustomModel, SlowModel, areas_of, priority_of, speed_of};
+use model_eval::{CustomModel, SlowModel, Statements, areas_of, priority_of, speed_of};
 use std::marker::Model;
 
 /// A km/h in milli-km/h.
@@ -37,6 +37,9 @@ const MM_FOR_A_MS: u64 = 1000;
 pub struct Weighting<'a> {
     profile: &'a Profile,
     query: Option<&'a SlowModel>,
+    influence: u32,
+    is_idle: bool,
+    guesses: [u64; 256],
 }
 
 impl<'a> Model for Weighting<'a> {
@@ -48,12 +51,16 @@ impl<'a> Model for Weighting<'a> {
 
     ghost coded = { Prim.hlevel (codes, e.the_row.coded) };
 
-    ghost use Rattle.std.specs.Prelude.{option_map};
+    ghost use Rattle.std.specs.Prelude.{◌≡◌, option_map};
     ghost use Rattle.model_eval.specs.Models.{IsModel};
+    ghost use Rattle.weighting.specs.Rules.{rule_of};
+    ghost use Rattle.weighting.specs.Weights.{influence_by};
+    ghost use Rattle.weighting.specs.Plain.{has_no_statement};
 
     ghost view = { λ a. record { vehicle = a.profile.now.vehicle; profile = a.profile.now.model; query = option_map (λ q. q.now) a.query } };
 
-    ghost invariant = { λ a. IsModel a.profile.now.model };
+    ghost invariant = { λ a. let rule = rule_of a.profile.now (option_map (λ q. q.now) a.query) in
+        IsModel a.profile.now.model × (a.influence ≡ influence_by rule) × (a.is_idle ≡ has_no_statement rule) };
 }
 
 /// A running speed in milli-km/h, and a running priority in millionths.
@@ -82,11 +89,56 @@ fn runs_of(model: &CustomModel, graph: &BaseGraph, edge: DirEdge, before: Runs) 
     }
 }
 
-/// The speed that a run starts from, in milli-km/h.
-fn first_speed(vehicle: Vehicle, values: &DirValues, limit: u32) -> u32
-    ensures { result ≡ min (1000 * stored.speed_of vehicle values.now) limit }
+/// Whether there is no statement.
+fn has_none(statements: &Statements) -> bool
+    ensures { result ≡ plain.has_none statements.now }
 {
-    limit.min(MILLI * u32::from(values.speed(vehicle)))
+    statements.is_empty()
+}
+
+/// Whether a model has no statement.
+fn is_plain(model: &CustomModel) -> bool
+    ensures { result ≡ plain.is_plain model.now }
+{
+    has_none(&model.speed) && has_none(&model.priority)
+}
+
+/// Whether a profile with a query's model, or alone, runs no statement.
+fn runs_nothing(profile: &Profile, query: Option<&SlowModel>) -> bool
+    ensures { result ≡ plain.has_no_statement (rule_of profile.now (option_map (λ q. q.now) query.entry)) }
+{
+    match query {
+        None => is_plain(&profile.model),
+        Some(query) => is_plain(&profile.model) && is_plain(query.model()),
+    }
+}
+
+/// The influence of distance of a profile with a query's model, or alone, in s/km.
+fn influence_of(profile: &Profile, query: Option<&SlowModel>) -> u32
+    ensures { result ≡ spec.influence_by (rule_of profile.now (option_map (λ q. q.now) query.entry)) }
+{
+    let own = match query {
+        None => None,
+        Some(query) => query.model().distance_influence,
+    };
+    own.or(profile.model.distance_influence).unwrap_or(0)
+}
+
+/// The speed that a run starts from, in milli-km/h.
+fn first_speed(own: u8, limit: u32) -> u32
+    ensures { result ≡ min (1000 * own) limit }
+{
+    limit.min(MILLI * u32::from(own))
+}
+
+/// The ms of so many mm at a speed, rounded up, with a guess at the reciprocal of the speed.
+#[tactic(auto, using(crate::proofs::Quotients::plain_time, crate::proofs::Quotients::quotient_within))]
+fn plain_time_at(speed: u32, mm: u32, guess: u64) -> u64
+    requires { 0 < speed }
+    ensures time { result ≡ spec.time_at speed 1000000 mm }
+    ensures small { result ≤ 3600 * mm }
+{
+    quotient_of(MS_FOR_A_MM * u64::from(mm), u64::from(speed), guess)
 }
 
 /// The ms of so many mm at a speed, divided by the priority, rounded up.
@@ -117,7 +169,13 @@ impl<'a> Weighting<'a> {
         requires { IsModel profile.now.model }
         ensures { result ≡ rule_of profile.now (option_map (λ q. q.now) query.entry) }
     {
-        Weighting { profile, query }
+        Weighting {
+            profile,
+            query,
+            influence: influence_of(profile, query),
+            is_idle: runs_nothing(profile, query),
+            guesses: guesses_by_kmh(),
+        }
     }
 
     /// What the profile's model and then the query's make of both running numbers.
@@ -134,18 +192,6 @@ impl<'a> Weighting<'a> {
         }
     }
 
-    /// The influence of distance, in s/km.
-    fn influence(&self) -> u32
-        ensures { result ≡ spec.influence_by self.now }
-    {
-        let profile = self.profile;
-        let own = match self.query {
-            None => None,
-            Some(query) => query.model().distance_influence,
-        };
-        own.or(profile.model.distance_influence).unwrap_or(0)
-    }
-
     fn vehicle(&self) -> Vehicle
         ensures { result ≡ self.now.vehicle }
     {
@@ -155,24 +201,29 @@ impl<'a> Weighting<'a> {
 
     /// The weight in ms of `mm` mm of a directed edge under a traffic limit in milli-km/h; None where the vehicle may
     /// not pass. Conditions see what is stored, and never the limit. It takes no memory.
-    #[tactic(auto, unfolding(crate::specs::Weights::weight_by, crate::specs::Weights::weight_if))]
+    #[tactic(auto, using(crate::proofs::Plain::plain_weight), unfolding(crate::specs::Weights::weight_by, crate::specs::Weights::weight_if))]
     pub fn weight(&self, graph: &BaseGraph, edge: DirEdge, limit: u32, mm: u32) -> Option<u64>
         requires { edge.edge.0 < length graph.now.lists.edges }
         ensures { result ≡ spec.weight_by self.now graph.now.lists edge limit mm }
     {
-        let values = graph.values(edge.edge, edge.reverse);
-        let start = Runs {
-            speed: first_speed(self.vehicle(), &values, limit),
-            priority: FIRST_PRIORITY,
-        };
-        if start.speed == 0 {
+        let own = graph.values(edge.edge, edge.reverse).speed(self.vehicle());
+        let speed = first_speed(own, limit);
+        if speed == 0 {
             return None;
         }
+        if self.is_idle {
+            let guess = self.guesses[usize::from(own)];
+            return Some(plain_time_at(speed, mm, guess) + distance_share(self.influence, mm));
+        }
+        let start = Runs {
+            speed,
+            priority: FIRST_PRIORITY,
+        };
         let runs = self.runs(graph, edge, start);
         if runs.speed == 0 || runs.priority == 0 {
             return None;
         }
-        Some(time_at(runs, mm) + distance_share(self.influence(), mm))
+        Some(time_at(runs, mm) + distance_share(self.influence, mm))
     }
 
     /// The weight of a whole directed edge at its own limit.
