@@ -1,10 +1,36 @@
-// bench/hostile.c: calls of the C library that fail on demand; bench/hostile builds it and puts it in front of the program.
+// bench/hostile.c: calls of the C library that fail on demand; bench/hostile builds it and puts it in front of the program. With
+// LAUNCHER it is a small program, `hostile FILE SHIM WORD..`, that runs the words with the shim in front (none where it is empty), and
+// writes to the open FILE how it ended and its peak memory: a process that is begun by a large one would count that one's memory.
 //
 // By the environment: FAIL_REQUEST=N refuses the Nth request for memory, with FAIL_ON=1 all behind it too; FAIL_READ=N and
 // FAIL_WRITE=N fail the Nth read or write of standard output with ERROR (EIO where none is named); SHORT_READ=1 and SHORT_WRITE=1 move
 // one byte a call; NO_THREADS=1 makes no thread; SHRINK=FILE is cut to SHRINK_TO bytes at the read SHRINK_AT; COUNTS=FILE is
 // written at the end: how many requests, reads and writes there were.
 #define _GNU_SOURCE
+#ifdef LAUNCHER
+#include <stdio.h>
+#include <stdlib.h>
+#include <sys/resource.h>
+#include <sys/wait.h>
+#include <unistd.h>
+
+int main(int count, char **words) {
+    int ended = 0, report = count > 3 ? atoi(words[1]) : -1;
+    struct rusage used;
+    pid_t child = fork();
+    if (child == 0) {
+        close(report);
+        if (*words[2])
+            setenv("LD_PRELOAD", words[2], 1);
+        execv(words[3], words + 3);
+        _exit(127);
+    }
+    if (child < 0 || wait4(child, &ended, 0, &used) != child)
+        return 1;
+    dprintf(report, "%d %ld\n", WIFSIGNALED(ended) ? -WTERMSIG(ended) : WEXITSTATUS(ended), used.ru_maxrss);
+    return 0;
+}
+#else
 #include <dlfcn.h>
 #include <errno.h>
 #include <pthread.h>
@@ -87,3 +113,4 @@ ssize_t __write(int file, const void *from, size_t size) { return write(file, fr
 int pthread_create(pthread_t *thread, const pthread_attr_t *how, void *(*body)(void *), void *with) {
     return no_threads ? EAGAIN : next_make_thread(thread, how, body, with);
 }
+#endif
