@@ -1,7 +1,7 @@
 # bench/landmarks.py: distances on the roads and what landmarks say of them, by the definitions, for bench/agree.
 #
 # It holds the distances from a place by exploring everything that can be reached, the least weight of a walk, the preparation of a
-# profile (landmarks by the farthest rule, grain, labels in grains), and the potential of a query. Nothing here stops early.
+# profile (landmarks by the farthest rule, grain, labels in grains), and the potential of a query.
 import heapq
 from functools import cached_property
 
@@ -12,33 +12,46 @@ MOST_GRAINS = 65534
 GREATEST_POTENTIAL = 2 ** 62
 GREATEST_MEASURED = 2 ** 60
 
-# the distance of each tower from the nearest of some towers, which are opened with a distance, or none; weights are cut to grains
-def spread(hops, opened, grain=1):
-    found, opened = [None] * len(hops), list(opened)
+# the distance of each tower from the nearest of some towers, which are opened with a distance, or none; weights are cut to grains.
+# `ends` has towers and what is still to go from there: a tower further than the nearest end, with that, need not be told
+def spread(hops, opened, grain=1, ends=()):
+    size, found, left, most = len(hops), [None] * len(hops), dict(ends), None
+    opened = [distance * size + node for distance, node in opened]
     heapq.heapify(opened)
     while opened:
-        distance, node = heapq.heappop(opened)
-        if found[node] is None:
-            found[node] = distance
-            for weight, other in hops[node]:
-                if found[other] is None:
-                    heapq.heappush(opened, (distance + weight - weight % grain, other))
+        distance, node = divmod(heapq.heappop(opened), size)
+        if found[node] is not None:
+            continue
+        if most is not None and distance > most:
+            break
+        found[node] = distance
+        if node in left and (most is None or distance + left[node] < most):
+            most = distance + left[node]
+        for weight, other in hops[node]:
+            if found[other] is None:
+                heapq.heappush(opened, (distance + weight - weight % grain) * size + other)
     return found
 
-# the distance of each tower from a place, or none
-def distances(weights, start):
+# the towers from which a walk goes on to a place, with what it weighs from there
+def ends_at(weights, target):
+    if isinstance(target, Tower):
+        return [(target.node, 0)]
+    pairs = [(piece.tail, weights.weight(piece)) for piece in pieces_in(weights.roads, target)]
+    return [pair for pair in pairs if pair[1] is not None]
+
+# the distance of each tower from a place, or none; those that are further than the target need not be told
+def distances(weights, start, target):
+    ends = ends_at(weights, target)
     if isinstance(start, Tower):
-        return spread(weights.hops[0], [(0, start.node)])
+        return spread(weights.hops[0], [(0, start.node)], ends=ends)
     out = [(weights.weight(piece), piece.head) for piece in pieces_out(weights.roads, start)]
-    return spread(weights.hops[0], [pair for pair in out if pair[0] is not None])
+    return spread(weights.hops[0], [pair for pair in out if pair[0] is not None], ends=ends)
 
 # the least weight of a walk between two places, or none; `found` has the distances from the start
 def least_weight(weights, start, target, found):
-    if isinstance(target, Tower):
-        return found[target.node]
-    walks = [(0, weights.weight(piece)) for piece in pieces_between(start, target)]
-    walks += [(found[piece.tail], weights.weight(piece)) for piece in pieces_in(weights.roads, target)]
-    return min((sum(pair) for pair in walks if None not in pair), default=None)
+    walks = [weights.weight(piece) for piece in pieces_between(start, target)]
+    walks += [found[node] + weight for node, weight in ends_at(weights, target) if found[node] is not None]
+    return min((weight for weight in walks if weight is not None), default=None)
 
 # the least tower of the part with most towers; in a part all are joined by hops, whatever their direction
 def largest_part(leaving):
@@ -112,19 +125,15 @@ class Preparation:
         order = sorted(range(len(bounds)), key=lambda landmark: (bounds[landmark] is not None, -(bounds[landmark] or 0), landmark))
         return order[:MOST_ACTIVE]
 
-# the potential of each tower for a query, or none where it is unreachable; 0 everywhere without a preparation
-def potentials(weights, preparation, start, target):
-    nodes = range(len(weights.roads.ids))
+# the potential of a tower for a query, as a function that has none where it is unreachable; 0 everywhere without a preparation
+def potential_of(weights, preparation, start, target):
     if preparation is None:
-        return [0 for _ in nodes]
-    ends = [(target.node, 0)] if isinstance(target, Tower) else [
-        (piece.tail, weights.weight(piece)) for piece in pieces_in(weights.roads, target) if weights.weight(piece) is not None]
+        return lambda node: 0
+    ends = ends_at(weights, target)
     first, last = (place.node if isinstance(place, Tower) else weights.roads.edges[place.edge].base for place in (start, target))
     active = preparation.active(first, last)
-    found = [None for _ in nodes]
-    for end, weight in ends:
-        for node in nodes:
-            bound = preparation.bound(active, node, end)
-            if bound is not None:
-                found[node] = min(bound + weight, GREATEST_POTENTIAL if found[node] is None else found[node])
-    return found
+
+    def potential(node):
+        bounds = [(preparation.bound(active, node, end), weight) for end, weight in ends]
+        return min((min(bound + weight, GREATEST_POTENTIAL) for bound, weight in bounds if bound is not None), default=None)
+    return potential

@@ -405,6 +405,10 @@ class Rule:
         self.lies_in = [[{name for name, rings in model.areas.items() if any(is_inside(rings, point) for point in edge.shape)}
                          for model in models] for edge in roads.edges]
         self.paces = {}
+        self.pieces_from, self.pieces_to = [[] for _ in roads.ids], [[] for _ in roads.ids]
+        for piece in roads.pieces:
+            self.pieces_from[piece.tail].append(piece)
+            self.pieces_to[piece.head].append(piece)
 
     # speed times priority as the statements of the models make them, one model after the other; 0 where there is no weight
     def pace(self, number, reverse, limit):
@@ -434,13 +438,29 @@ class Weights:
     # of each tower the hops that have a weight, as weight and tower: to where they lead, and from where they come
     @cached_property
     def hops(self):
-        leaving, coming = [[] for _ in self.roads.ids], [[] for _ in self.roads.ids]
-        for piece in self.roads.pieces:
-            weight = self.weight(piece)
-            if weight is not None:
-                leaving[piece.tail].append((weight, piece.head))
-                coming[piece.head].append((weight, piece.tail))
-        return leaving, coming
+        nodes = range(len(self.roads.ids))
+        return [self.leaving(node) for node in nodes], [self.coming(node) for node in nodes]
+
+    # the hops that leave a tower
+    def leaving(self, node):
+        pairs = ((self.weight(piece), piece.head) for piece in self.rule.pieces_from[node])
+        return [pair for pair in pairs if pair[0] is not None]
+
+    # the hops that come to a tower
+    def coming(self, node):
+        pairs = ((self.weight(piece), piece.tail) for piece in self.rule.pieces_to[node])
+        return [pair for pair in pairs if pair[0] is not None]
+
+    # the same rule where some directed edges have other limits
+    def with_limits(self, others):
+        weights = Weights(self.rule, list(self.limits))
+        leaving, coming = (list(hops) for hops in self.hops)
+        for directed, limit in others:
+            weights.limits[directed] = limit
+        for piece in [self.roads.pieces[directed] for directed, _ in others]:
+            leaving[piece.tail], coming[piece.head] = weights.leaving(piece.tail), weights.coming(piece.head)
+        weights.hops = leaving, coming
+        return weights
 
 # the square of the distance from a point to an edge, and the offset of the foot
 def foot_on(edge, point):

@@ -315,7 +315,7 @@ struct Turns {
 
 impl Turns {
     fn wait(&self, answered: &AtomicU64) {
-        for _ in 0..1_000_000_000u64 {
+        for _ in 0..100_000_000u64 {
             if answered.load(SeqCst) > 0 {
                 return;
             }
