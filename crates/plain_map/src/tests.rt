@@ -17,61 +17,6 @@ fn prints(rt: &HostRuntime, bytes: &[u8], text: &[u8]) -> bool {
 }
 
 #[test]
-fn a_skipped_line_may_hold_any_bytes(rt: HostRuntime) {
-    assert!(rt;
-        prints(
-            &rt,
-            b"# \xff n1\n\nr1 Tq\xff\nn1 x0 y-0.50 v1 T\nw-7 N T\nn002 y90 x-180",
-            b"n1 y-0.5 x0\nn2 y90 x-180\nw-7\n"
-        )
-    );
-}
-
-#[test]
-fn an_escape_is_its_character(rt: HostRuntime) {
-    assert!(rt;
-        prints(
-            &rt,
-            b"w1 Ta%20%b=c%263A%,d= Nn1,n-2 c3",
-            b"w1 Ta%20%b=c\xe2\x98\xba,d= Nn1,n-2\n"
-        )
-    );
-}
-
-#[test]
-fn the_first_fault_has_its_line_and_byte(rt: HostRuntime) {
-    for (bytes, line, byte, kind) in [
-        (b"n1 y0\xff x0 q".as_slice(), 1u32, 5u32, PlainKind::Utf8),
-        (b"x1".as_slice(), 1, 0, PlainKind::Line),
-        (b" n1 y0 x0".as_slice(), 1, 0, PlainKind::Line),
-        (b"n y0 x0".as_slice(), 1, 0, PlainKind::Number),
-        (b"w1234567890123456789".as_slice(), 1, 0, PlainKind::Number),
-        (b"n1 y1.00000001 x0".as_slice(), 1, 3, PlainKind::Number),
-        (b"n1 y1000000000 x0".as_slice(), 1, 3, PlainKind::Number),
-        (b"w1 Nn1,".as_slice(), 1, 3, PlainKind::Number),
-        (b"w1 Ta=%d800%".as_slice(), 1, 3, PlainKind::Escape),
-        (b"w1 Ta=%0000020%".as_slice(), 1, 3, PlainKind::Escape),
-        (b"w1 Ta=%".as_slice(), 1, 3, PlainKind::Escape),
-        (b"w1 Ta=%,b".as_slice(), 1, 3, PlainKind::Tag),
-        (b"w1 Ta=b,".as_slice(), 1, 3, PlainKind::Tag),
-        (b"n1 x0 y90.0000001".as_slice(), 1, 6, PlainKind::Place),
-        (b"n1 y0 x-181".as_slice(), 1, 6, PlainKind::Place),
-        (b"\nn1 y0 x0 q".as_slice(), 2, 9, PlainKind::Field),
-        (b"n1 y0  x0".as_slice(), 1, 6, PlainKind::Field),
-        (b"n1 y0 yz x0".as_slice(), 1, 6, PlainKind::Field),
-        (b"w1 T Tq".as_slice(), 1, 5, PlainKind::Field),
-        (b"n1 y0".as_slice(), 1, 5, PlainKind::Missing),
-    ] {
-        let fault = read(&rt, bytes).err();
-        assert_eq!(rt;
-            fault,
-            Some(PlainFault::At { line, byte, kind }),
-            "line {line} byte {byte}"
-        );
-    }
-}
-
-#[test]
 fn a_failing_source_is_no_fault_of_the_map(rt: HostRuntime) {
     let mut source = MemSource::new(b"x1 is no line", 3, &[3]);
     let fault = read_plain(rt.alloc(), &mut source).err();
