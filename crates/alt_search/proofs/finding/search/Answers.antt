@@ -40,6 +40,18 @@ returns-then-not-end-clause-here g c = λ same. none_from_target c.in_ok-end.ens
 pub returns-then-not-end-clause-closed : goal.returns-then-not-end-clause-closed
 returns-then-not-end-clause-closed g c = λ f. shown_none c.in_ok-end.ensures.done (g.met.V.RoadView.leads c.args.view.now) c.requires.start c.requires.target f c.if-not-end.true
 
+pub weight_at-weight-requires : goal.weight_at-weight-requires
+weight_at-weight-requires g c =
+    let d = c.in_ok-end.ensures.done in
+    let stops = (rw c.if-not-end.false at d.stops).0 in
+    ap is_some (d.underway.tree.queued c.args.target.0 stops.key stops.key_is).2
+
+pub walk_to-requires-clause-target : goal.walk_to-requires-clause-target
+walk_to-requires-clause-target g c =
+    let d = c.in_ok-end.ensures.done in
+    let stops = (rw c.if-not-end.false at d.stops).0 in
+    ap is_some (d.underway.tree.queued c.args.target.0 stops.key stops.key_is).2
+
 pub walk_to-requires-clause-chain : goal.walk_to-requires-clause-chain
 walk_to-requires-clause-chain g c = chain_of c.in_ok-end.ensures.done.underway.tree
 
