@@ -8,14 +8,14 @@ use gh_base::{DirEdge, EdgeId, NoMemory, NodeId, Point};
 use std::alloc::Global;
 use std::marker::Model;
 
-/// An edge as it is kept.
+/// An edge as it is kept. What a search reads of it stands together, within one line of a cache.
 #[derive(Drop)]
 pub(crate) struct Stored {
     pub(crate) base: NodeId,
     pub(crate) adjacent: NodeId,
     pub(crate) mm: u32,
-    pub(crate) between: Vec<Point>,
     pub(crate) values: EdgeValues,
+    pub(crate) between: Vec<Point>,
 }
 
 impl Model for Stored {
