@@ -33,8 +33,9 @@ use Rattle.script_service.specs.Replying.{reply_of, reply_of_model, asks_under, 
 use Rattle.script_service.specs.Going.{Knowing, Knows, Follows}
 use Rattle.script_service.specs.Telling.{answered}
 use Rattle.script_service.specs.SeatReplies.{told_of_lower, told_of_restore, told_of_publish, left_by}
+use Rattle.script_service.proofs.RightReplies.{model_refused, route_refused}
 use Rattle.script_service.proofs.KnowsMore.{IsNext, knows_more}
-use Rattle.script_service.proofs.SeatRows.{Speaks, all_seen, starts_same, IsLowerTold, IsRestoreTold, IsPublishTold, lower_told, restore_told, publish_told}
+use Rattle.script_service.proofs.SeatRows.{Speaks, IsTold, all_seen, starts_same, publish_said, publish_told}
 
 -- by the command: the reply is right, the rule is that behind the command, and of each profile what is held follows
 pub follows : (land : Land) (capacity : ℕ) (before after : Knowing) (xs ys : List Entry) (line : Line) (told : Told) (c : Command) → line.command ≡ c → Speaks xs ys told →
@@ -62,37 +63,22 @@ stays land ys profile line told held c is none =
 unchanged : (ys : List Entry) (told : Told) → told.at ≡ length ys → is_accepted told.reply ≡ false → Speaks ys ys told
 unchanged ys told at none = record { starts = starts_same ys; at = at; new = λ took. absurd cc }
 
-pub lower_follows : (land : Land) (before after : Place) (k : Knowing) (line : Line) (edge : ℕ) (reverse : Bool) (speed : ℕ) (said : LowerReply) (len : ℕ) (told : Told) →
-    line.command ≡ command.Lower edge reverse speed → line.actor ≡ before.actor → after.cells ≡ before.cells →
-    Lowers land.graph line.number (along edge reverse) speed before after said → len ≡ length after.entries → told ≡ told_of_lower len said →
-    Follows land (length before.cells) k k before.entries after.entries line (answered line told)
-lower_follows land before after k line edge reverse speed said len other is own cells lowers long same =
-    let told = told_of_lower (length after.entries) said in
-    let all : told ≡ other = ap (λ (n : ℕ). told_of_lower n said) (sym long) ∙ sym same in
-    let row : IsLowerTold land before after line (along edge reverse) speed told = lower_told land before after line (along edge reverse) speed said own cells lowers in
-    let c : Command = command.Lower edge reverse speed in
-    let right = λ (profile : ℕ) (there : profile < length land.profiles). stays land after.entries profile line told (slice_index_or k.held profile None) c is refl in
-    subst (λ (t : Told). Follows land (length before.cells) k k before.entries after.entries line (answered line t)) all
-    (follows land (length before.cells) k k before.entries after.entries line told c is row.speaks (λ own knows. row.says) refl refl right)
+-- a command behind which its actor knows what it knew
+pub keeps : (land : Land) (capacity : ℕ) (k : Knowing) (xs ys : List Entry) (line : Line) (told : Told) (c : Command) → line.command ≡ c → k.rule ≡ rule_behind land.profiles k.rule c →
+    ((profile : ℕ) → settles_by profile c told.reply ≡ false) → Speaks xs ys told → ((own : List Answered) → Knows land ys own k → IsRightTo land capacity ys own (answered line told) c) →
+    Follows land capacity k k xs ys line (answered line told)
+keeps land capacity k xs ys line told c is rule none speaks right =
+    follows land capacity k k xs ys line told c is speaks right rule refl (λ p there. stays land ys p line told (slice_index_or k.held p None) c is (none p))
 
-pub restore_follows : (land : Land) (before after : Place) (k : Knowing) (line : Line) (edge : ℕ) (reverse : Bool) (speed : ℕ) (said : RestoreReply) (len : ℕ) (told : Told) →
-    line.command ≡ command.Restore edge reverse speed → line.actor ≡ before.actor → after.cells ≡ before.cells →
-    Restores land.graph line.number (along edge reverse) speed before after said → len ≡ length after.entries → told ≡ told_of_restore len said →
+-- a command whose reply says this of the list, by where it stands
+pub told_follows : (land : Land) (before after : Place) (k : Knowing) (line : Line) (c : Command) (Says : Told → Type 0) (told_of : ℕ → Told) (len : ℕ) (told : Told) →
+    line.command ≡ c → k.rule ≡ rule_behind land.profiles k.rule c → ((profile : ℕ) → settles_by profile c told.reply ≡ false) →
+    (Says told → (own : List Answered) → IsRightTo land (length before.cells) after.entries own (answered line told) c) →
+    IsTold before after Says (told_of (length after.entries)) → len ≡ length after.entries → told ≡ told_of len →
     Follows land (length before.cells) k k before.entries after.entries line (answered line told)
-restore_follows land before after k line edge reverse speed said len other is own cells restores long same =
-    let told = told_of_restore (length after.entries) said in
-    let all : told ≡ other = ap (λ (n : ℕ). told_of_restore n said) (sym long) ∙ sym same in
-    let row : IsRestoreTold land before after line (along edge reverse) speed told = restore_told land before after line (along edge reverse) speed said own cells restores in
-    let c : Command = command.Restore edge reverse speed in
-    let right = λ (profile : ℕ) (there : profile < length land.profiles). stays land after.entries profile line told (slice_index_or k.held profile None) c is refl in
-    subst (λ (t : Told). Follows land (length before.cells) k k before.entries after.entries line (answered line t)) all
-    (follows land (length before.cells) k k before.entries after.entries line told c is row.speaks (λ own knows. row.says) refl refl right)
-
-model_refused : (said : ModelReply) → is_accepted (reply_of_model said) ≡ false
-model_refused taken.Taken = refl
-model_refused (taken.BadJson byte kind) = refl
-model_refused (taken.BadModel place kind) = refl
-model_refused (taken.Speeds offender) = refl
+told_follows land before after k line c Says told_of len told is rule none right row long same =
+    let all : IsTold before after Says told = subst (IsTold before after Says) (ap told_of (sym long) ∙ sym same) row in
+    keeps land (length before.cells) k before.entries after.entries line told c is rule none all.speaks (λ own knows. right all.says own)
 
 pub model_follows : (land : Land) (capacity : ℕ) (ys : List Entry) (k after : Knowing) (line : Line) (profile : ℕ) (text : List ℕ) (said : ModelReply) (told : Told) →
     line.command ≡ command.Model profile text → said ≡ reply_to land.profiles profile text → after ≡ record { rule = rule_with land.profiles k.rule profile text; held = k.held } →
@@ -107,14 +93,6 @@ model_follows land capacity ys k after line profile text said told is reply_is a
     (λ own knows. printed ∙ ap reply_of_model reply_is) refl refl
     (λ p there. stays land ys p line told (slice_index_or k.held p None) c is refl))
 
-route_refused : (said : RouteAnswer) → is_accepted (reply_of said) ≡ false
-route_refused (answer.NoNode id) = refl
-route_refused (answer.NoSnap point) = refl
-route_refused (answer.NoRoute settled) = refl
-route_refused (answer.WeightOverflow weight) = refl
-route_refused (answer.Walk weight mm settled hops) = refl
-route_refused (answer.Labelled weight labels) = refl
-
 pub route_follows : (land : Land) (capacity : ℕ) (ys : List Entry) (k : Knowing) (line : Line) (start target : Asked) (labels : Bool) (told : Told) →
     line.command ≡ command.Route start target labels → told.at ≡ length ys → IsRightQuery land ys (asks_under k.rule start target labels) told.reply →
     Follows land capacity k k ys ys line (answered line told)
@@ -123,9 +101,8 @@ route_follows land capacity ys k line start target labels told is at right =
     let none : is_accepted told.reply ≡ false = ap is_accepted right.route.printed ∙ route_refused right.route.answer in
     let all : take told.at ys ≡ ys = rw at (take-length ys) in
     let Right : List Entry → InForce → Type 0 = λ h rule. IsRightQuery land h (asks_under rule start target labels) told.reply in
-    follows land capacity k k ys ys line told c is (unchanged ys told at none)
-    (λ own knows. subst (λ (h : List Entry). Right h (rule_after land.profiles own)) (sym all) (subst (Right ys) knows.rule_is right)) refl refl
-    (λ p there. stays land ys p line told (slice_index_or k.held p None) c is refl)
+    keeps land capacity k ys ys line told c is refl (λ p. refl) (unchanged ys told at none)
+    (λ own knows. subst (λ (h : List Entry). Right h (rule_after land.profiles own)) (sym all) (subst (Right ys) knows.rule_is right))
 
 -- the preparation of one profile was replaced
 settled_one : (land : Land) (ys : List Entry) (a : Answered) (held : List (Option Preparation)) (profile p : ℕ) (next : Option Preparation) → settles p a ≡ eqb profile p → profile < length held →
@@ -160,8 +137,7 @@ no_landmark_follows land capacity ys k line profile count at is none here =
     let told : Told = record { at = at; reply = reply.NoLandmark } in
     let c : Command = command.Prepare profile count in
     let seen : IsNoPrepAt land (take at ys) profile = rw (all_seen ys at here) none in
-    follows land capacity k k ys ys line told c is (unchanged ys told here refl) (λ own knows. seen) refl refl
-    (λ p there. stays land ys p line told (slice_index_or k.held p None) c is refl)
+    keeps land capacity k ys ys line told c is refl (λ p. refl) (unchanged ys told here refl) (λ own knows. seen)
 
 -- the actor held nothing to publish
 pub nothing_follows : (land : Land) (capacity : ℕ) (ys : List Entry) (k : Knowing) (line : Line) (profile at : ℕ) →
@@ -170,9 +146,8 @@ pub nothing_follows : (land : Land) (capacity : ℕ) (ys : List Entry) (k : Know
 nothing_follows land capacity ys k line profile at is there none here =
     let told : Told = record { at = at; reply = reply.Nothing } in
     let c : Command = command.Publish profile in
-    follows land capacity k k ys ys line told c is (unchanged ys told here refl)
-    (λ own knows. record { held = None; held_is = rw none at (knows.held_is profile there); says = refl }) refl refl
-    (λ p _. stays land ys p line told (slice_index_or k.held p None) c is refl)
+    keeps land capacity k ys ys line told c is refl (λ p. refl) (unchanged ys told here refl)
+    (λ own knows. record { held = None; held_is = rw none at (knows.held_is profile there); says = refl })
 
 -- behind a publication, of each profile
 left_next : (land : Land) (ys : List Entry) (line : Line) (held : List (Option Preparation)) (profile p : ℕ) (said : PublishReply) → line.command ≡ command.Publish profile → profile < length held →
@@ -196,7 +171,7 @@ pub publish_follows : (land : Land) (before after : Place) (k next : Knowing) (l
     Follows land (length before.cells) k next before.entries after.entries line (answered line told)
 publish_follows land before after k next line profile prep said other is own cells there long held publishes next_is same =
     let told = told_of_publish said in
-    let row : IsPublishTold land before after line prep told = publish_told land before after line prep said own cells publishes in
+    let row : IsTold before after (publish_said land before after line prep) told = publish_told land before after line prep said own cells publishes in
     let below : profile < length k.held = omega arith in
     let left : Knowing = record { rule = k.rule; held = left_by k.held profile said } in
     let all : Follows land (length before.cells) k left before.entries after.entries line (answered line told) =

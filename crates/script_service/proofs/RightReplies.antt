@@ -144,13 +144,13 @@ EntryOf land journal own a c = (change : What) × IsEntry journal a change × Is
 refused : (said other : Reply) → said ≡ other → is_accepted other ≡ false → is_accepted said ≡ true → ⊥
 refused said other is none took = let same = ap is_accepted is in cc
 
-model_refused : (said : ModelReply) → is_accepted (reply_of_model said) ≡ false
+pub model_refused : (said : ModelReply) → is_accepted (reply_of_model said) ≡ false
 model_refused taken.Taken = refl
 model_refused (taken.BadJson byte kind) = refl
 model_refused (taken.BadModel place kind) = refl
 model_refused (taken.Speeds offender) = refl
 
-route_refused : (said : RouteAnswer) → is_accepted (reply_of said) ≡ false
+pub route_refused : (said : RouteAnswer) → is_accepted (reply_of said) ≡ false
 route_refused (answer.NoNode id) = refl
 route_refused (answer.NoSnap point) = refl
 route_refused (answer.NoRoute settled) = refl

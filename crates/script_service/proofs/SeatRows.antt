@@ -13,7 +13,7 @@ use Rattle.traffic_core.specs.History.{limit_in, limit_after, IsFirstBelow}
 use Rattle.script_text.specs.declared.script.Line.{Line}
 use Rattle.script_text.specs.declared.reply.Reply.{Reply}
 use Rattle.script_text.specs.declared.reply.Reply.TheVariants as reply
-use Rattle.traffic_share.specs.Seats.{Place, entry_of, StartsWith, GrewWithout, Accepts}
+use Rattle.traffic_share.specs.Seats.{Place, entry_of, StartsWith, GrewWithout, Accepts, Refuses}
 use Rattle.traffic_share.specs.Lowering.{Lowers}
 use Rattle.traffic_share.specs.Restoring.{Restores}
 use Rattle.traffic_share.specs.Publishing.{Publishes}
@@ -79,6 +79,11 @@ starts_accepted mine xs ys at took = record {
   is = took.is ∙ ap (λ (l : List Entry). l ++ mine ∷ []) took.begins.is ∙ append_assoc xs took.begins.rest (mine ∷ []);
 }
 
+-- what a reply speaks of, and what it says
+pub record IsTold (before after : Place) (Says : Told → Type 0) (told : Told) : Type 0 where
+  pub speaks : Speaks before.entries after.entries told
+  pub says : Says told
+
 -- a reply that has no entry of its own
 refused : (mine : Entry) (xs ys : List Entry) (told : Told) → GrewWithout mine xs ys → told.at ≡ length ys → is_accepted told.reply ≡ false → Speaks xs ys told
 refused mine xs ys told grew at is = record { starts = starts_grew mine xs ys grew; at = at; new = λ took. absurd cc }
@@ -92,83 +97,61 @@ accepted mine xs ys told took = record {
 }
 
 module _ (land : Land) (before after : Place) (line : Line) where
-  -- a told reply to a lowering is right
-  pub record IsLowerTold (by : DirEdge) (speed : ℕ) (told : Told) : Type 0 where
-    pub speaks : Speaks before.entries after.entries told
-    pub says : SaysLower land (length before.cells) after.entries (answered line told) by speed told.reply
+  -- a reply that the list of then refuses
+  refusal : (Says : Told → Type 0) (mine : Entry) (told : Told) → is_accepted told.reply ≡ false → Refuses mine before.entries after.entries told.at → Says told → IsTold before after Says told
+  refusal Says mine told none is says = record { speaks = refused mine before.entries after.entries told is.begins is.place none; says = says }
+
+  -- a reply whose entry is the last, behind the front of then
+  acceptance : (Says : Told → Type 0) (change : What) (told : Told) (took : Accepts (entry_of before line.number change) before.entries after.entries told.at) → line.actor ≡ before.actor →
+      (IsEntry after.entries (answered line told) change → take (told.at - 1) after.entries ≡ took.front → Says told) → IsTold before after Says told
+  acceptance Says change told took own says =
+      let mine : Entry = entry_of before line.number change in
+      let last = is_last mine took.front after.entries told.at took.is took.place in
+      record {
+        speaks = accepted mine before.entries after.entries told took;
+        says = says (own_entry before took.front after.entries line told.at told.reply change own last) last.before;
+      }
+
+  -- what a told reply to a lowering is to say
+  abbrev pub lower_said : DirEdge → ℕ → Told → Type 0
+  lower_said by speed told = SaysLower land (length before.cells) after.entries (answered line told) by speed told.reply
 
   pub lower_told : (by : DirEdge) (speed : ℕ) (said : LowerReply) → line.actor ≡ before.actor → after.cells ≡ before.cells →
-      Lowers land.graph line.number by speed before after said → IsLowerTold by speed (told_of_lower (length after.entries) said)
-  lower_told by speed (lower.NoSuchEdge edge) own cells is = record {
-    speaks = refused _ _ _ _ is.2 refl refl;
-    says = is.1;
-  }
-  lower_told by speed (lower.NotLower at now) own cells is = record {
-    speaks = refused _ _ _ _ is.1.begins is.1.place refl;
-    says = (is.0, rw (all_seen after.entries at is.1.place) (is.2, is.3));
-  }
-  lower_told by speed (lower.JournalFull at) own cells is = record {
-    speaks = refused _ _ _ _ is.1.begins is.1.place refl;
-    says = (is.0, rw (all_seen after.entries at is.1.place) (is.3, is.1.place ∙ is.2 ∙ ap length cells));
-  }
+      Lowers land.graph line.number by speed before after said → IsTold before after (lower_said by speed) (told_of_lower (length after.entries) said)
+  lower_told by speed (lower.NoSuchEdge edge) own cells is = record { speaks = refused _ _ _ _ is.2 refl refl; says = is.1 }
+  lower_told by speed (lower.NotLower at now) own cells is =
+      refusal (lower_said by speed) _ _ refl is.1 (is.0, rw (all_seen after.entries at is.1.place) (is.2, is.3))
+  lower_told by speed (lower.JournalFull at) own cells is =
+      refusal (lower_said by speed) _ _ refl is.1 (is.0, rw (all_seen after.entries at is.1.place) (is.3, is.1.place ∙ is.2 ∙ ap length cells))
   lower_told by speed (lower.Lowered at) own cells is =
-      let took = is.1.0 in
-      let last = is_last (entry_of before line.number (what.Lower by speed)) took.front after.entries at took.is took.place in
-      record {
-        speaks = accepted _ _ _ _ took;
-        says = (is.0, (own_entry before took.front after.entries line at reply.Lowered (what.Lower by speed) own last, rw last.before is.1.1));
-      }
+      acceptance (lower_said by speed) (what.Lower by speed) _ is.1.0 own (λ entry front. (is.0, (entry, rw front is.1.1)))
 
-  pub record IsRestoreTold (by : DirEdge) (speed : ℕ) (told : Told) : Type 0 where
-    pub speaks : Speaks before.entries after.entries told
-    pub says : SaysRestore land (length before.cells) after.entries (answered line told) by speed told.reply
+  -- to a restoring
+  abbrev pub restore_said : DirEdge → ℕ → Told → Type 0
+  restore_said by speed told = SaysRestore land (length before.cells) after.entries (answered line told) by speed told.reply
 
   pub restore_told : (by : DirEdge) (speed : ℕ) (said : RestoreReply) → line.actor ≡ before.actor → after.cells ≡ before.cells →
-      Restores land.graph line.number by speed before after said → IsRestoreTold by speed (told_of_restore (length after.entries) said)
-  restore_told by speed (restore.NoSuchEdge edge) own cells is = record {
-    speaks = refused _ _ _ _ is.2 refl refl;
-    says = is.1;
-  }
-  restore_told by speed (restore.NotHigher at now) own cells is = record {
-    speaks = refused _ _ _ _ is.1.begins is.1.place refl;
-    says = (is.0, rw (all_seen after.entries at is.1.place) (is.2, is.3));
-  }
-  restore_told by speed (restore.OverBase at base) own cells is = record {
-    speaks = refused _ _ _ _ is.1.begins is.1.place refl;
-    says = (is.0, rw (all_seen after.entries at is.1.place) (is.2, is.3, is.4));
-  }
-  restore_told by speed (restore.JournalFull at) own cells is = record {
-    speaks = refused _ _ _ _ is.1.begins is.1.place refl;
-    says = (is.0, rw (all_seen after.entries at is.1.place) (is.3, is.4, is.1.place ∙ is.2 ∙ ap length cells));
-  }
+      Restores land.graph line.number by speed before after said → IsTold before after (restore_said by speed) (told_of_restore (length after.entries) said)
+  restore_told by speed (restore.NoSuchEdge edge) own cells is = record { speaks = refused _ _ _ _ is.2 refl refl; says = is.1 }
+  restore_told by speed (restore.NotHigher at now) own cells is =
+      refusal (restore_said by speed) _ _ refl is.1 (is.0, rw (all_seen after.entries at is.1.place) (is.2, is.3))
+  restore_told by speed (restore.OverBase at base) own cells is =
+      refusal (restore_said by speed) _ _ refl is.1 (is.0, rw (all_seen after.entries at is.1.place) (is.2, is.3, is.4))
+  restore_told by speed (restore.JournalFull at) own cells is =
+      refusal (restore_said by speed) _ _ refl is.1 (is.0, rw (all_seen after.entries at is.1.place) (is.3, is.4, is.1.place ∙ is.2 ∙ ap length cells))
   restore_told by speed (restore.Restored at) own cells is =
-      let took = is.2.0 in
-      let last = is_last (entry_of before line.number (what.Restore by speed)) took.front after.entries at took.is took.place in
-      record {
-        speaks = accepted _ _ _ _ took;
-        says = (is.0, (own_entry before took.front after.entries line at reply.Restored (what.Restore by speed) own last, rw last.before is.2.1, is.1));
-      }
+      acceptance (restore_said by speed) (what.Restore by speed) _ is.2.0 own (λ entry front. (is.0, (entry, rw front is.2.1, is.1)))
 
-  pub record IsPublishTold (prep : Preparation) (told : Told) : Type 0 where
-    pub speaks : Speaks before.entries after.entries told
-    pub says : SaysPublish land (length before.cells) after.entries (answered line told) (Some prep) told.reply
+  -- and to a publication
+  abbrev pub publish_said : Preparation → Told → Type 0
+  publish_said prep told = SaysPublish land (length before.cells) after.entries (answered line told) (Some prep) told.reply
 
   pub publish_told : (prep : Preparation) (said : PublishReply) → line.actor ≡ before.actor → after.cells ≡ before.cells →
-      Publishes land.graph line.number prep before after said → IsPublishTold prep (told_of_publish said)
+      Publishes land.graph line.number prep before after said → IsTold before after (publish_said prep) (told_of_publish said)
   publish_told prep (publish.NotInForce at by earlier now) own cells is =
       let Says : List Entry → Type 0 = λ h. (earlier ≡ limit_in prep.snapshot by) × (now ≡ limit_after land.graph h by) × IsFirstBelow land.graph (limit_after land.graph h) prep.snapshot by in
-      record {
-        speaks = refused _ _ _ _ is.0.begins is.0.place refl;
-        says = subst Says (sym (all_seen after.entries at is.0.place)) (is.2, is.3, is.1);
-      }
-  publish_told prep (publish.JournalFull at) own cells is = record {
-    speaks = refused _ _ _ _ is.0.begins is.0.place refl;
-    says = rw (all_seen after.entries at is.0.place) (is.2, is.0.place ∙ is.1 ∙ ap length cells);
-  }
+      refusal (publish_said prep) _ _ refl is.0 (subst Says (sym (all_seen after.entries at is.0.place)) (is.2, is.3, is.1))
+  publish_told prep (publish.JournalFull at) own cells is =
+      refusal (publish_said prep) _ _ refl is.0 (rw (all_seen after.entries at is.0.place) (is.2, is.0.place ∙ is.1 ∙ ap length cells))
   publish_told prep (publish.Published at) own cells is =
-      let took = is.0 in
-      let last = is_last (entry_of before line.number (what.Publish prep)) took.front after.entries at took.is took.place in
-      record {
-        speaks = accepted _ _ _ _ took;
-        says = (own_entry before took.front after.entries line at reply.Published (what.Publish prep) own last, rw last.before is.1);
-      }
+      acceptance (publish_said prep) (what.Publish prep) _ is.0 own (λ entry front. (entry, rw front is.1))

@@ -68,44 +68,6 @@ fn ask_route<J: Naming>(
     })
 }
 
-/// A lower limit on a directed edge, or why not.
-fn lower<J: Naming>(
-    seat: &mut Seat<'_, '_, J>,
-    memory: &Memory<J>,
-    line: &Line,
-    edge: u32,
-    reverse: bool,
-    speed: u32,
-) -> Result<Told, NoMemory>
-    requires own { line.now.actor ≡ seat.old.actor }
-    requires more { seat.old.last < line.now.number }
-    requires is { line.now.command ≡ Command.Lower edge reverse speed }
-    ensures after { IsSeatAfter line.now.number seat.old seat.new }
-    ensures follows { IfOk result (Answers J.land seat.old seat.new memory.now memory.now line.now) }
-{
-    let reply = seat.lower(line.number, edge, reverse, speed)?;
-    Ok(told_of_lower(seat.len(), reply))
-}
-
-/// A higher limit on a directed edge, or why not.
-fn restore<J: Naming>(
-    seat: &mut Seat<'_, '_, J>,
-    memory: &Memory<J>,
-    line: &Line,
-    edge: u32,
-    reverse: bool,
-    speed: u32,
-) -> Result<Told, NoMemory>
-    requires own { line.now.actor ≡ seat.old.actor }
-    requires more { seat.old.last < line.now.number }
-    requires is { line.now.command ≡ Command.Restore edge reverse speed }
-    ensures after { IsSeatAfter line.now.number seat.old seat.new }
-    ensures follows { IfOk result (Answers J.land seat.old seat.new memory.now memory.now line.now) }
-{
-    let reply = seat.restore(line.number, edge, reverse, speed)?;
-    Ok(told_of_restore(seat.len(), reply))
-}
-
 /// A preparation of a profile, which the actor holds then, or that no road can be used under the profile.
 fn prepare<J: Naming, R: Threads + Sync>(
     rt: &R,
@@ -189,12 +151,18 @@ pub fn answer<J: Naming, R: Threads + Sync>(
             edge,
             reverse,
             speed,
-        } => lower(seat, memory, line, *edge, *reverse, *speed),
+        } => {
+            let reply = seat.lower(line.number, *edge, *reverse, *speed)?;
+            Ok(told_of_lower(seat.len(), reply))
+        }
         Command::Restore {
             edge,
             reverse,
             speed,
-        } => restore(seat, memory, line, *edge, *reverse, *speed),
+        } => {
+            let reply = seat.restore(line.number, *edge, *reverse, *speed)?;
+            Ok(told_of_restore(seat.len(), reply))
+        }
         Command::Prepare { profile, count } => prepare(rt, seat, memory, line, *profile, *count),
         Command::Publish { profile } => publish(seat, memory, line, *profile),
     }

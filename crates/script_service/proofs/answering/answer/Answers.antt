@@ -1,7 +1,37 @@
-use Rattle.script_service.proofs.CommandFollows.{route_answered}
+use Rattle.std.proofs.Common.{ℕ, refl}
+use Rattle.script_service.specs.Replying.{along}
+use Rattle.script_service.specs.SeatReplies.{told_of_lower, told_of_restore}
+use Rattle.script_service.proofs.SeatRows.{lower_said, lower_told, restore_said, restore_told}
+use Rattle.script_service.proofs.CommandFollows.{route_answered, told_follows}
 use Rattle.script_service.proofs.answering.answer.Goals as goal
 
 pub returns-in-Route-clause-follows : goal.returns-in-Route-clause-follows
 returns-in-Route-clause-follows g c =
     route_answered g.J.Naming.land _ _ c.args.memory.now _ c.args.line.now _ _ _ _
     c.in-Route.is c.session.ensures.rule c.ask_route.ensures.at c.ask_route.ensures.right
+
+pub returns-in_ok-reply-in-Lower-clause-follows : goal.returns-in_ok-reply-in-Lower-clause-follows
+returns-in_ok-reply-in-Lower-clause-follows g c =
+    let before = c.args.seat.now in
+    let after = c.lower.new.self in
+    let line = c.args.line.now in
+    let by = along c.in-Lower.edge c.in-Lower.reverse in
+    let reply = c.in_ok-reply-in-Lower.reply in
+    told_follows g.J.Naming.land before after c.args.memory.now line _
+    (lower_said g.J.Naming.land before after line by c.in-Lower.speed)
+    (λ (len : ℕ). told_of_lower len reply) _ _ c.in-Lower.is refl (λ p. refl) (λ says own. says)
+    (lower_told g.J.Naming.land before after line by c.in-Lower.speed reply c.requires.own c.lower.ensures.cells c.in_ok-reply-in-Lower.ensures.ok)
+    c.len.ensures c.told_of_lower.ensures
+
+pub returns-in_ok-reply-in-Restore-clause-follows : goal.returns-in_ok-reply-in-Restore-clause-follows
+returns-in_ok-reply-in-Restore-clause-follows g c =
+    let before = c.args.seat.now in
+    let after = c.restore.new.self in
+    let line = c.args.line.now in
+    let by = along c.in-Restore.edge c.in-Restore.reverse in
+    let reply = c.in_ok-reply-in-Restore.reply in
+    told_follows g.J.Naming.land before after c.args.memory.now line _
+    (restore_said g.J.Naming.land before after line by c.in-Restore.speed)
+    (λ (len : ℕ). told_of_restore len reply) _ _ c.in-Restore.is refl (λ p. refl) (λ says own. says)
+    (restore_told g.J.Naming.land before after line by c.in-Restore.speed reply c.requires.own c.restore.ensures.cells c.in_ok-reply-in-Restore.ensures.ok)
+    c.len-in-Restore.ensures c.told_of_restore.ensures
