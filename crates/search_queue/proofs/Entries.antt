@@ -1,45 +1,26 @@
 -- Items that come into a heap, get a lesser key and leave it.
-use Rattle.std.proofs.Common.{◌≡◌, ◌≢◌, ℕ, ◌+◌, ◌^◌, ◌<◌, ◌≤◌, Option, Some, None, IsSomeAnd, List, [], ◌∷◌, ◌++◌, length, take, replicate, length-set, length-append, zero, suc, sym, ap, subst, ◌∙◌, refl, inl, inr, arith}
+use Rattle.std.proofs.Common.{◌≡◌, ◌≢◌, ℕ, ◌+◌, ◌^◌, ◌<◌, ◌≤◌, Option, Some, None, IsSomeAnd, List, [], ◌∷◌, ◌++◌, length, take, replicate, length-set, length-append, zero, suc, sym, ap, ◌∙◌, refl, inl, inr, arith}
 use Rattle.std.specs.Prelude.{slice_set}
 use Rattle.std.proofs.lemmas.Bool.{cases_eq, cases_lt}
 use Rattle.std.proofs.lemmas.List.{get_or-set_same, get_or-set_other, get_or_append_left, get_or-take, length-take-le, get_or_past, get_or_push, get_or-replicate, length-replicate, take_at}
-use Rattle.search_queue.specs.declared.items.Item.{Item}
-use Rattle.search_queue.specs.declared.heap.Heap.{Heap}
+use Rattle.search_queue.specs.declared.heap.Item.{Item}
 use Rattle.search_queue.specs.Keys.{key_at}
-use Rattle.search_queue.specs.Heaps.{rank, node_at, place_of, key_in, keys_in, ArePaired, IsHoled, AreOrdered, MayRise, IsHeap}
-use Rattle.search_queue.specs.Items.{item_at}
+use Rattle.search_queue.specs.Heaps.{item_at, rank, node_at, place_of, key_in, keys_in, ArePaired, IsHoled, AreOrdered, MayRise}
 use Rattle.search_queue.proofs.Pigeons.{pigeons, fewer}
 use Rattle.search_queue.proofs.Holes.{length-keys_in, key-keys_in, key_in_place, key_in_none, place_of_key, no_place, same_keys}
 use Rattle.search_queue.proofs.Orders.{least_first}
-
-no_places : (nodes node : ℕ) → place_of (replicate nodes 0) node ≡ 0
-no_places nodes node = elim (cases_lt node nodes) [
-  | inl l ↦ get_or-replicate nodes node 0 0 l
-  | inr g ↦ get_or_past (replicate nodes 0) node 0 (omega (arith, length-replicate {A = ℕ} nodes 0))
-]
 
 -- with no items there are no keys
 pub empty_keys : (items : List Item) (nodes : ℕ) → keys_in items (replicate nodes 0) ≡ replicate nodes None
 empty_keys items nodes =
     same_keys (keys_in items (replicate nodes 0)) (replicate nodes None) (omega (arith, length-keys_in items (replicate nodes 0), length-replicate {A = ℕ} nodes 0, length-replicate {A = Option ℕ} nodes None))
-    (λ v. key-keys_in items (replicate nodes 0) v ∙ (key_in_none items (place_of (replicate nodes 0) v) (no_places nodes v) ∙ sym (elim (cases_lt v nodes) [
+    (λ v. key-keys_in items (replicate nodes 0) v ∙ (key_in_none items (place_of (replicate nodes 0) v) (elim (cases_lt v nodes) [
+      | inl l ↦ get_or-replicate nodes v 0 0 l
+      | inr g ↦ get_or_past (replicate nodes 0) v 0 (omega (arith, length-replicate {A = ℕ} nodes 0))
+    ]) ∙ sym (elim (cases_lt v nodes) [
       | inl l ↦ get_or-replicate nodes v None None l
       | inr g ↦ get_or_past (replicate nodes None) v None (omega (arith, length-replicate {A = Option ℕ} nodes None))
     ])))
-
-pub empty_heap : (heap : Heap) (nodes : ℕ) → nodes < 2 ^ 32 → heap.items.items ≡ [] → heap.items.room ≡ nodes → heap.places ≡ replicate nodes 0 → IsHeap heap
-empty_heap heap nodes few none room pe =
-    let long : length heap.places ≡ nodes = omega (arith, ap length pe, length-replicate {A = ℕ} nodes 0) in
-    let no_items : length heap.items.items ≡ 0 = ap length none in
-    record {
-      few = omega arith;
-      room = omega (arith, room);
-      paired = record {
-        forward = λ at i. absurd (omega (arith, no_items));
-        backward = λ node at p. absurd (let here = ap (λ (ys : List ℕ). place_of ys node) pe in omega (arith, no_places nodes node));
-      };
-      ordered = λ parent child b i. absurd (omega (arith, no_items));
-    }
 
 module _ {items : List Item} {places : List ℕ} (paired : ArePaired items places) where
   -- there are no more items than nodes
@@ -236,6 +217,10 @@ popped items items' last e = (
   sym (ap (λ (xs : List Item). item_at xs (length items')) e ∙ get_or_push items' last _ (length items') refl),
 )
 
+pub popped_first : (items items' : List Item) (last : Item) → items ≡ items' ++ last ∷ [] → length items' ≢ 0 → item_at items' 0 ≡ item_at items 0
+popped_first items items' last e more =
+    sym (ap (λ (xs : List Item). item_at xs 0) e ∙ get_or_append_left items' (last ∷ []) _ 0 (omega arith))
+
 some_and : (key : ℕ) (o : Option ℕ) → IsSomeAnd o (λ k. key ≤ k) → (k : ℕ) × (o ≡ Some k) × (key ≤ k)
 some_and key (Some k) h = (k, refl, h)
 some_and key None h = absurd h
@@ -247,39 +232,3 @@ present_place {items} {places} paired node key h =
     let p = place_of_key items (place_of places node) s.0 (sym (key-keys_in items places node) ∙ s.1) in
     let b = paired.backward node p.0 p.1 in
     (p.0, p.1, b.0, omega (arith, p.2, s.2))
-
--- what the exits of `leave` need: the first item leaves, with the last taken off the list
-off : (items : List Item) (places places' : List ℕ) (first : Item) → first ≡ item_at items 0 → places' ≡ slice_set places first.node 0 → places' ≡ slice_set places (node_at items 0) 0
-off items places places' first fe pe = pe ∙ ap (λ (y : Item). slice_set places y.node 0) fe
-
-module _ {items : List Item} {places : List ℕ} (paired : ArePaired items places) (items' : List Item) (last : Item) (ie : items ≡ items' ++ last ∷ []) {first : Item} (fe : first ≡ item_at items 0) where
-  pub taken_found : key_at (keys_in items places) first.node ≡ Some first.key
-  taken_found = subst (λ (y : Item). key_at (keys_in items places) y.node ≡ Some y.key) (sym fe) (first_found paired (omega (arith, (popped items items' last ie).0)))
-
-  pub taken_least : AreOrdered (length items) (rank items) → (node key : ℕ) → key_at (keys_in items places) node ≡ Some key → first.key ≤ key
-  taken_least ordered = subst (λ (y : Item). (node key : ℕ) → key_at (keys_in items places) node ≡ Some key → y.key ≤ key) (sym fe) (first_least paired ordered)
-
-  module _ {places' : List ℕ} (few : length places < 2 ^ 32) (pe : places' ≡ slice_set places first.node 0) where
-    pub taken_holed : length items' ≢ 0 → IsHoled items' places' 0 last.node
-    taken_holed more =
-        let p = popped items items' last ie in
-        subst (λ (y : Item). IsHoled items' places' 0 y.node) (sym p.2) (left_holed paired (length items') items' places' few p.0 p.1 (off items places places' first fe pe) more)
-
-    pub taken_keys : length items' ≢ 0 → slice_set (keys_in items' places') last.node (Some last.key) ≡ slice_set (keys_in items places) first.node None
-    taken_keys more =
-        let p = popped items items' last ie in
-        ap (λ (y : Item). slice_set (keys_in items' places') y.node (Some y.key)) p.2 ∙ (left_keys paired (length items') items' places' few p.0 p.1 (off items places places' first fe pe) more ∙ ap (λ (y : Item). slice_set (keys_in items places) y.node None) (sym fe))
-
-    pub taken_only : length items' ≡ 0 → ArePaired items' places' × (keys_in items' places' ≡ slice_set (keys_in items places) first.node None)
-    taken_only none =
-        let p = popped items items' last ie in
-        let pe0 = off items places places' first fe pe in
-        (emptied_pairs paired (length items') items' places' few p.0 p.1 pe0 none, emptied_keys paired (length items') items' places' few p.0 p.1 pe0 none ∙ ap (λ (y : Item). slice_set (keys_in items places) y.node None) (sym fe))
-
--- the only item of a list is the first
-pub only_first : (items items' : List Item) (last : Item) → items ≡ items' ++ last ∷ [] → length items' ≡ 0 → last ≡ item_at items 0
-only_first items items' last ie none = (popped items items' last ie).2 ∙ ap (item_at items) none
-
-pub still_first : (items items' : List Item) (last : Item) → items ≡ items' ++ last ∷ [] → length items' ≢ 0 → item_at items' 0 ≡ item_at items 0
-still_first items items' last e more =
-    sym (ap (λ (xs : List Item). item_at xs 0) e ∙ get_or_append_left items' (last ∷ []) _ 0 (omega arith))

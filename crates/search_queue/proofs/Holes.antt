@@ -3,11 +3,9 @@ use Rattle.std.proofs.Common.{◌≡◌, ◌≢◌, ℕ, ◌+◌, ◌<◌, ◌�
 use Rattle.std.specs.Prelude.{slice_set}
 use Rattle.std.proofs.lemmas.Bool.{cases_eq, cases_lt}
 use Rattle.std.proofs.lemmas.List.{get_or-set_same, get_or-set_other, get_or-map, get_or_past, length-map, ext_get_or}
-use Rattle.search_queue.specs.declared.items.Item.{Item}
+use Rattle.search_queue.specs.declared.heap.Item.{Item}
 use Rattle.search_queue.specs.Keys.{key_at}
-use Rattle.search_queue.specs.declared.heap.Heap.{Heap}
-use Rattle.search_queue.specs.Heaps.{rank, node_at, place_of, key_in, keys_in, ArePaired, IsHoled, IsBelow, AreOrdered, MayRise, MaySink, IsHeap}
-use Rattle.search_queue.specs.Items.{item_at}
+use Rattle.search_queue.specs.Heaps.{item_at, rank, node_at, place_of, key_in, keys_in, ArePaired, IsHoled, IsBelow, AreOrdered, MayRise, MaySink}
 use Rattle.search_queue.proofs.Orders.{rise_step, rise_end, sink_step, sink_end}
 
 pub length-keys_in : (items : List Item) (places : List ℕ) → length (keys_in items places) ≡ length places
@@ -197,12 +195,3 @@ module _ {items : List Item} {places : List ℕ} {hole node : ℕ} (h : IsHoled 
   sink_steps below key m under inside least xe less =
       let here : rank items' hole ≡ rank items below = rank_here ∙ ap (λ (y : Item). y.key) xe in
       subst (λ (n : ℕ). MaySink n (rank items') below key) (sym long_items) (sink_step rank_there below m under inside least here (omega (arith, here, rank_here)))
-
--- with its item put in, and all in order, it is a heap again
-pub filled_heap : (old new : Heap) {hole : ℕ} (item : Item) → IsHoled old.items.items old.places hole item.node → length old.places ≤ old.items.room → new.items.items ≡ slice_set old.items.items hole item → new.places ≡ slice_set old.places item.node (hole + 1) → new.items.room ≡ old.items.room → AreOrdered (length new.items.items) (rank new.items.items) → IsHeap new
-filled_heap old new item h room ie pe same ordered = record {
-  few = omega (arith, h.few, long_places h item ie pe);
-  room = omega (arith, room, long_places h item ie pe, same);
-  paired = filled_pairs h item ie pe refl;
-  ordered = ordered;
-}

@@ -5,4 +5,3 @@ pub mod Paging
 pub mod Pigeons
 pub mod Places
 pub mod Tables
-pub mod Narrowing

@@ -1,8 +1,10 @@
 -- A heap of items with four below each, whose nodes know their places (D. B. Johnson, "Priority queues with update and finding minimum spanning trees").
-use Rattle.std.specs.Prelude.{◌≡◌, ◌≢◌, ℕ, zero, suc, ◌+◌, ◌*◌, ◌^◌, ◌<◌, ◌≤◌, Option, Some, None, List, map, length, slice_index}
-use Rattle.search_queue.specs.declared.items.Item.{Item}
+use Rattle.std.specs.Prelude.{◌≡◌, ◌≢◌, ℕ, zero, suc, ◌+◌, ◌*◌, ◌^◌, ◌<◌, ◌≤◌, Option, Some, None, List, map, length, slice_index, slice_index_or, vec_capacity}
+use Rattle.search_queue.specs.declared.heap.Item.{Item}
 use Rattle.search_queue.specs.declared.heap.Heap.{Heap}
-use Rattle.search_queue.specs.Items.{item_at}
+
+abbrev pub item_at : List Item → ℕ → Item
+item_at items at = slice_index_or items at (record { key = 0; node = 0 })
 
 -- the key of the item at a place
 abbrev pub rank : List Item → ℕ → ℕ
@@ -66,6 +68,6 @@ pub record MaySink (count : ℕ) (rank : ℕ → ℕ) (hole key : ℕ) : Type 0 
 -- the heap of a queue
 pub record IsHeap (heap : Heap) : Type 0 where
   pub few : length heap.places < 2 ^ 32
-  pub room : length heap.places ≤ heap.items.room
+  pub room : length heap.places ≤ vec_capacity heap.items
   pub paired : ArePaired heap.items.items heap.places
   pub ordered : AreOrdered (length heap.items.items) (rank heap.items.items)

@@ -1,4 +1,3 @@
 pub mod Heaps
-pub mod Items
 pub mod Keys
 pub mod Pages

@@ -1,18 +1,24 @@
 //! The heap: nodes with their keys in an order, and for each node its place there.
-ghost use Rattle.std.specs.Prelude.{◌≡◌, ◌≢◌, ◌<◌, ◌≤◌, ◌^◌, ◌+◌, ◌*◌, ◌⊎◌, ℕ, Some, None, List, [], length, replicate, slice_set, slice_index, IfOk, IfSome, IfNone, IsSomeAnd};
+ghost use Rattle.std.specs.Prelude.{◌≡◌, ◌≢◌, ◌<◌, ◌≤◌, ◌^◌, ◌+◌, ◌*◌, ◌⊎◌, ℕ, Some, None, List, [], length, replicate, slice_set, slice_index, vec_capacity, IfOk, IfSome, IfNone, IsSomeAnd};
 ghost use Rattle.search_queue.specs.Keys.{key_at};
-ghost use Rattle.search_queue.specs.Heaps.{rank, place_of, keys_of, IsBelow, IsHoled, MayRise, MaySink, IsHeap};
+ghost use Rattle.search_queue.specs.Heaps.{item_at, rank, place_of, keys_of, IsBelow, IsHoled, MayRise, MaySink, IsHeap};
 
-use crate::items::{Item, Items};
 use crate::node_table::NodeTable;
 use gh_base::NoMemory;
 use std::alloc::Global;
+
+/// A node in the heap, with its key.
+#[derive(Clone, Copy)]
+pub struct Item {
+    pub key: u128,
+    pub node: u32,
+}
 
 /// The places right below `at` are `4 * at + 1` to `4 * at + 4`. A node's place is kept plus 1, and 0 for
 /// a node that isn't in the heap.
 #[derive(Drop)]
 pub struct Heap {
-    items: Items,
+    items: Vec<Item>,
     places: NodeTable,
 }
 
@@ -23,7 +29,7 @@ impl Heap {
         ensures empty { IfOk result (λ heap. keys_of heap ≡ replicate nodes None) }
     {
         Ok(Heap {
-            items: Items::new(alloc, nodes as usize)?,
+            items: Vec::with_capacity(alloc, nodes as usize)?,
             places: NodeTable::new(alloc, nodes)?,
         })
     }
@@ -38,7 +44,7 @@ impl Heap {
         if place == 0 {
             return None;
         }
-        Some(self.items.get(place as usize - 1).key)
+        Some(self.items[place as usize - 1].key)
     }
 
     /// Takes in a node that isn't in the heap.
@@ -50,7 +56,7 @@ impl Heap {
         ensures keys { keys_of self.new ≡ slice_set (keys_of self.old) item.node (Some item.key) }
     {
         let last = self.items.len();
-        self.items.push(item);
+        self.items.push_reserved(item);
         self.rise(last, item);
     }
 
@@ -81,7 +87,7 @@ impl Heap {
             self.places.set(last.node, 0);
             return Some(last);
         }
-        let first = self.items.get(0);
+        let first = self.items[0];
         self.places.set(first.node, 0);
         self.sink(last);
         Some(first)
@@ -90,7 +96,7 @@ impl Heap {
     /// Lets an item rise from a place that is free until none above it is greater, and puts it there.
     fn rise(&mut self, start: usize, item: Item)
         requires holed { IsHoled self.old.items.items self.old.places start item.node }
-        requires room { length self.old.places ≤ self.old.items.room }
+        requires room { length self.old.places ≤ vec_capacity self.old.items }
         requires order { MayRise (length self.old.items.items) (rank self.old.items.items) start item.key }
         ensures heap { IsHeap self.new }
         ensures keys { keys_of self.new ≡ slice_set (keys_of self.old) item.node (Some item.key) }
@@ -98,7 +104,7 @@ impl Heap {
         let mut at = start;
         while at > 0 {
             let parent = (at - 1) / 4;
-            let above = self.items.get(parent);
+            let above = self.items[parent];
             if above.key <= item.key {
                 self.put(at, item);
                 return;
@@ -112,14 +118,14 @@ impl Heap {
     /// Lets an item sink from the first place, which is free, until none below it is less, and puts it there.
     fn sink(&mut self, item: Item)
         requires holed { IsHoled self.old.items.items self.old.places 0 item.node }
-        requires room { length self.old.places ≤ self.old.items.room }
+        requires room { length self.old.places ≤ vec_capacity self.old.items }
         requires order { MaySink (length self.old.items.items) (rank self.old.items.items) 0 item.key }
         ensures heap { IsHeap self.new }
         ensures keys { keys_of self.new ≡ slice_set (keys_of self.old) item.node (Some item.key) }
     {
         let mut at = 0;
         while let Some(child) = self.least_child(at) {
-            let below = self.items.get(child);
+            let below = self.items[child];
             if item.key <= below.key {
                 self.put(at, item);
                 return;
@@ -164,7 +170,7 @@ impl Heap {
         ensures first { rank self.now.items.items result ≤ rank self.now.items.items one }
         ensures second { rank self.now.items.items result ≤ rank self.now.items.items other }
     {
-        if self.items.is_less(other, one) {
+        if self.items[other].key < self.items[one].key {
             return other;
         }
         one
@@ -177,9 +183,9 @@ impl Heap {
         requires node { item.node < length self.old.places }
         ensures items { self.new.items.items ≡ slice_set self.old.items.items at item }
         ensures places { self.new.places ≡ slice_set self.old.places item.node (at + 1) }
-        ensures room { self.new.items.room ≡ self.old.items.room }
+        ensures capacity { vec_capacity self.new.items ≡ vec_capacity self.old.items }
     {
-        self.items.set(at, item);
+        self.items[at] = item;
         self.places.set(item.node, at as u32 + 1);
     }
 }

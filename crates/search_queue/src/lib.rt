@@ -8,7 +8,6 @@
 #![tactic(auto)]
 
 mod heap;
-mod items;
 mod node_table;
 mod pages;
 mod queue;

@@ -2,8 +2,7 @@
 ghost use Rattle.std.specs.Prelude.{◌≡◌, ◌<◌, ◌≤◌, ℕ, Some, None, length, replicate, slice_set, IfSome, IfNone, IfOk, IsSomeAnd};
 ghost use Rattle.search_queue.specs.Keys.{key_at};
 
-use crate::heap::Heap;
-use crate::items::Item;
+use crate::heap::{Heap, Item};
 use gh_base::{NoMemory, NodeId};
 use std::alloc::Global;
 use std::marker::Model;
