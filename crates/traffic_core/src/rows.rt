@@ -49,6 +49,10 @@ impl ChangedLimits {
     pub(crate) fn get(&self, place: usize) -> Option<u32>
         ensures { IsChangedLimit self.now.rows place result }
     {
+        // While no limit was changed, no head is looked at.
+        if self.rows.is_empty() {
+            return None;
+        }
         let number = self.find(place)?;
         Some(self.rows[number as usize].speed)
     }
