@@ -6,8 +6,6 @@ use Rattle.std.proofs.Math.Seq.{take-length}
 use Rattle.std.proofs.lemmas.List.{length-set}
 use Rattle.std.proofs.lemmas.Bool.{eqb-true, eq-eqb}
 use Rattle.gh_base.specs.declared.query.Place.{Place as Asked}
-use Rattle.gh_base.specs.declared.query.RouteAnswer.{RouteAnswer}
-use Rattle.gh_base.specs.declared.query.RouteAnswer.TheVariants as answer
 use Rattle.landmark_prep.specs.Preparations.{Preparation}
 use Rattle.traffic_core.specs.declared.entry.Entry.{Entry}
 use Rattle.traffic_core.specs.Lands.{Land}
@@ -17,22 +15,17 @@ use Rattle.script_text.specs.declared.script.Command.TheVariants as command
 use Rattle.script_text.specs.declared.script.Line.{Line}
 use Rattle.script_text.specs.declared.reply.Reply.TheVariants as reply
 use Rattle.route_sessions.specs.declared.session.ModelReply.{ModelReply}
-use Rattle.route_sessions.specs.declared.session.ModelReply.TheVariants as taken
 use Rattle.route_sessions.specs.Sessions.{InForce, reply_to, rule_with}
 use Rattle.traffic_share.specs.Seats.{Place}
-use Rattle.traffic_share.specs.Lowering.{Lowers}
-use Rattle.traffic_share.specs.Restoring.{Restores}
 use Rattle.traffic_share.specs.Publishing.{Publishes}
-use Rattle.traffic_share.specs.declared.replies.LowerReply.{LowerReply}
-use Rattle.traffic_share.specs.declared.replies.RestoreReply.{RestoreReply}
 use Rattle.traffic_share.specs.declared.replies.PublishReply.{PublishReply}
 use Rattle.traffic_share.specs.declared.replies.PublishReply.TheVariants as publish
 use Rattle.script_service.specs.declared.told.Told.{Told}
 use Rattle.script_service.specs.Answering.{Answered, is_accepted, rule_behind, rule_after}
-use Rattle.script_service.specs.Replying.{reply_of, reply_of_model, asks_under, along, settles, settles_by, IsLeft, IsRightQuery, IsRightTo}
+use Rattle.script_service.specs.Replying.{reply_of_model, asks_under, settles, settles_by, IsLeft, IsRightQuery, IsRightTo}
 use Rattle.script_service.specs.Going.{Knowing, Knows, Follows}
 use Rattle.script_service.specs.Telling.{answered}
-use Rattle.script_service.specs.SeatReplies.{told_of_lower, told_of_restore, told_of_publish, left_by}
+use Rattle.script_service.specs.SeatReplies.{told_of_publish, left_by}
 use Rattle.script_service.proofs.RightReplies.{model_refused, route_refused}
 use Rattle.script_service.proofs.KnowsMore.{IsNext, knows_more}
 use Rattle.script_service.proofs.SeatRows.{Speaks, IsTold, all_seen, starts_same, publish_said, publish_told}

@@ -1,10 +1,9 @@
 -- Numbers grow, so each call has a greater one than its seat was given.
-use Rattle.std.proofs.Common.{◌≡◌, ℕ, ◌+◌, ◌<◌, ◌≤◌, List, [], ◌∷◌, ◌++◌, length, get_or, take, subst, sym, ◌∙◌, arith, All, AllPairs, length-take, length-append, get_or-take, drop, ap, refl, append_assoc, false, take-append-drop}
-use Rattle.std.proofs.lemmas.List.{take_more, get_or_append_left, get_or-append-add, get_or_default, drop_more}
+use Rattle.std.proofs.Common.{◌≡◌, ℕ, ◌+◌, ◌<◌, ◌≤◌, List, [], ◌∷◌, length, get_or, take, subst, sym, ◌∙◌, arith, All, AllPairs, length-take, get_or-take, false}
+use Rattle.std.proofs.lemmas.List.{take_more, get_or_default}
 use Rattle.std.proofs.lemmas.List.Elements.{All-head}
 use Rattle.script_text.specs.declared.script.Line.{Line}
 use Rattle.script_text.specs.declared.script.Command.TheVariants as command
-use Rattle.script_text.specs.Scripts.{lines_of}
 use Rattle.traffic_core.specs.Lands.{Land}
 use Rattle.traffic_share.specs.Seats.{Place}
 use Rattle.script_service.specs.Actors.{Acting, Awaits, Grows, StaysBelow, HasRun, IsTaught}

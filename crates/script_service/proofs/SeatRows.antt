@@ -12,7 +12,6 @@ use Rattle.traffic_core.specs.Lands.{Land}
 use Rattle.traffic_core.specs.History.{limit_in, limit_after, IsFirstBelow}
 use Rattle.script_text.specs.declared.script.Line.{Line}
 use Rattle.script_text.specs.declared.reply.Reply.{Reply}
-use Rattle.script_text.specs.declared.reply.Reply.TheVariants as reply
 use Rattle.traffic_share.specs.Seats.{Place, entry_of, StartsWith, GrewWithout, Accepts, Refuses}
 use Rattle.traffic_share.specs.Lowering.{Lowers}
 use Rattle.traffic_share.specs.Restoring.{Restores}

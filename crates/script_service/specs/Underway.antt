@@ -1,5 +1,5 @@
 -- A script that is underway: so many phases were answered and written.
-use Rattle.std.specs.Prelude.{◌≡◌, ℕ, List, Option}
+use Rattle.std.specs.Prelude.{ℕ, List, Option}
 use Rattle.std.specs.Io.KnownBytes.{Appends}
 use Rattle.traffic_core.specs.declared.entry.Entry.{Entry}
 use Rattle.traffic_core.specs.Lands.{Land}

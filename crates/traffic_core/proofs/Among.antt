@@ -15,7 +15,7 @@ use Rattle.walk_rules.specs.Evidence.{IsEvidence, IsEvidenceLabel}
 use Rattle.query_graph.specs.declared.ends.Leave.{Leave}
 use Rattle.query_graph.specs.declared.ends.Reach.{Reach}
 use Rattle.traffic_core.specs.Trips.{Trip, IsWalkOf, trip_network, trip_start, trip_target}
-use Rattle.traffic_core.specs.Answers.{Plan, IsAtMostEach, IsLeastOf, AreRightLabels, IsRightAmong, plan_of, greatest_weight}
+use Rattle.traffic_core.specs.Answers.{Plan, IsAtMostEach, IsLeastOf, AreRightLabels, IsRightAmong, IsWalkIn, plan_over, plan_of, greatest_weight}
 
 -- a bound of nothing is feasible
 pub flat_feasible : (network : Network) (target : ℕ) → IsFeasible network flat target
@@ -58,13 +58,6 @@ module _ (P Q : List Hop → Type 0) (same : (hops : List Hop) → P hops ↔ Q 
       evidence = h.1.evidence;
     },
   )
-
--- a search from a start to a target with a bound
-abbrev pub plan_over : Network → (ℕ → Option ℕ) → ℕ → ℕ → Plan
-plan_over network bound start target = record { network = network; start = start; target = target; bound = bound }
-
-abbrev pub IsWalkIn : Network → ℕ → ℕ → List Hop → Type 0
-IsWalkIn network start target hops = IsWalk network start hops target
 
 module _ (bound : ℕ → Option ℕ) (start target towers weight : ℕ) (full list : List (Option ℕ)) where
   -- the labels of the towers, of those that a certificate has for all nodes

@@ -3,11 +3,8 @@ use Rattle.std.specs.Option.{IfSome}
 use Rattle.std.proofs.Math.Path.{fun_ext}
 use Rattle.std.proofs.Common.{◌≡◌, ℕ, Bor, Option, Some, None, List, subst, sym}
 use Rattle.gh_base.specs.declared.edges.DirEdge.{DirEdge}
-use Rattle.gh_base.specs.declared.kinds.Part.TheVariants as part
 use Rattle.gh_base.specs.declared.query.RouteAnswer.{RouteAnswer}
-use Rattle.model_eval.specs.declared.custom_model.CustomModel.{CustomModel}
-use Rattle.model_eval.specs.Slowing.{IsSlow, Offence, first_of, offender, offender_among, low_influence}
-use Rattle.weighting.specs.SlowRoads.{OnlySlows, AreNowhereAbove}
+use Rattle.weighting.specs.SlowRoads.{AreNowhereAbove}
 use Rattle.landmark_prep.specs.Preparations.{Preparation}
 use Rattle.landmark_prep.specs.Laws.{NodesAreLabelled}
 use Rattle.traffic_core.specs.declared.entry.Entry.{Entry}
@@ -16,21 +13,6 @@ use Rattle.traffic_core.specs.History.{limit_in, AreLimitsAfter, IsGuide}
 use Rattle.traffic_core.specs.Truth.{IsTrueOver, CanGuide, network_at}
 use Rattle.traffic_core.specs.Answers.{Asked, IsRightAnswer}
 use Rattle.traffic_core.specs.Queries.{IsRightAfter}
-
-later_none : (first later : Option Offence) → first_of first later ≡ None → later ≡ None
-later_none None later e = e
-later_none (Some offence) later e = absurd cc
-
--- a slow model without an offender under a profile only slows it
-pub only_slows : (profile query : CustomModel) → IsSlow query → offender profile query ≡ None → OnlySlows profile query
-unfolding offender
-only_slows profile query slow e = record {
-  slow = slow;
-  influence =
-      let influence = low_influence profile.distance_influence query.distance_influence in
-      let rest = first_of (offender_among part.Priority 1 query.priority) influence in
-      later_none (offender_among part.Priority 1 query.priority) influence (later_none (offender_among part.Speed 1 query.speed) rest e);
-}
 
 -- a true preparation of the profile that covers the limits can guide
 pub can_guide : (land ground : Land) (limits : DirEdge → ℕ) (profile : ℕ) (prep : Option (Bor Preparation)) → ground ≡ land → NodesAreLabelled

@@ -7,7 +7,8 @@ use Rattle.gh_base.specs.declared.query.Place.TheVariants.{Id, At}
 use Rattle.gh_base.specs.declared.query.RouteAnswer.{RouteAnswer}
 use Rattle.gh_base.specs.declared.query.RouteAnswer.TheVariants.{NoNode, NoSnap, NoRoute, WeightOverflow, Walk, Labelled}
 use Rattle.gh_base.specs.Networks.{Network}
-use Rattle.walk_rules.specs.Walks.{weight_of}
+use Rattle.base_graph.specs.Graphs.{Graph}
+use Rattle.walk_rules.specs.Walks.{IsWalk, weight_of}
 use Rattle.walk_rules.specs.Distances.{label_at}
 use Rattle.walk_rules.specs.Starts.{StartsWithin, StartsAtAll}
 use Rattle.walk_rules.specs.Evidence.{IsEvidence, IsEvidenceLabel, IsShownLeast, IsShownNone}
@@ -85,9 +86,23 @@ IsRightAmong IsSo plan mm_of towers labels (WeightOverflow weight) = IsLeastOf I
 IsRightAmong IsSo plan mm_of towers labels (Walk weight mm settled hops) = (labels ≡ false) × IsRightWalk IsSo plan mm_of weight mm settled hops
 IsRightAmong IsSo plan mm_of towers labels (Labelled weight list) = (labels ≡ true) × AreRightLabels IsSo plan towers weight list
 
+-- a walk over a network from node to node
+abbrev pub IsWalkIn : Network → ℕ → ℕ → List Hop → Type 0
+IsWalkIn network start target hops = IsWalk network start hops target
+
+-- the plan over a network
+abbrev pub plan_over : Network → (ℕ → Option ℕ) → ℕ → ℕ → Plan
+plan_over network bound start target = record { network = network; start = start; target = target; bound = bound }
+
 -- the plan for a trip
 abbrev pub plan_of : Trip → (ℕ → Option ℕ) → Plan
-plan_of trip bound = record { network = trip_network trip; start = trip_start trip; target = trip_target trip; bound = bound }
+plan_of trip bound = plan_over (trip_network trip) bound (trip_start trip) (trip_target trip)
+
+-- which answer is right for a trip between two spots of a graph, where a search looks ahead by a bound
+abbrev pub IsRightTrip : Trip → Graph → Spot → Spot → Bool → (ℕ → Option ℕ) → RouteAnswer → Type 0
+IsRightTrip trip graph from to labels bound answer =
+    IsRightAmong (IsWalkOf trip) (plan_of trip bound)
+    (mm_between graph from to) (length graph.places) labels answer
 
 -- the trip of a query between two spots
 abbrev pub trip_between : Land → (DirEdge → ℕ) → Asked → Spot → Spot → Trip
@@ -96,8 +111,7 @@ trip_between land limits asks from to = trip_by (rule_of land asks.profile asks.
 -- which answer is right between two spots, where a search looks ahead by a bound
 abbrev pub IsRightBetween : Land → (DirEdge → ℕ) → (ℕ → Option ℕ) → Asked → Spot → Spot → RouteAnswer → Type 0
 IsRightBetween land limits bound asks from to answer =
-    let trip = trip_between land limits asks from to in
-    IsRightAmong (IsWalkOf trip) (plan_of trip bound) (mm_between land.graph from to) (length land.graph.places) asks.labels answer
+    IsRightTrip (trip_between land limits asks from to) land.graph from to asks.labels bound answer
 
 -- the answer for a place, the first or the second, that isn't on the roads
 abbrev pub missing : Place → ℕ → RouteAnswer

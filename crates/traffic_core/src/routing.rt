@@ -1,7 +1,6 @@
 //! Routes: least walks between two places.
 ghost use Rattle.std.specs.Prelude.{◌≡◌, ◌<◌, ◌≤◌, ℕ, Option, List, length, take, IfOk, IfSome};
 ghost use Rattle.gh_base.specs.declared.edges.Hop.{Hop};
-ghost use Rattle.walk_rules.specs.Walks.{IsWalk};
 ghost use Rattle.walk_rules.specs.Potentials.{IsFeasible};
 ghost use Rattle.weighting.specs.Rules.{alone};
 ghost use Rattle.weighting.specs.Roads.{AreOver};
@@ -9,7 +8,8 @@ ghost use Rattle.weighting.specs.SlowRoads.{OnlySlows, IsSlowing};
 ghost use Rattle.traffic_core.specs.Lands.{profile_at, rule_alone};
 ghost use Rattle.traffic_core.specs.Places.{IsPlace};
 ghost use Rattle.traffic_core.specs.Spots.{IsOn};
-ghost use Rattle.traffic_core.specs.Trips.{trip_by, mm_between, IsWalkOf, trip_network, trip_target, start_for, target_for};
+ghost use Rattle.traffic_core.specs.Trips.{trip_by, mm_between, trip_network, trip_target};
+ghost use Rattle.traffic_core.specs.Trips.{start_for, target_for};
 ghost use Rattle.traffic_core.specs.Truth.{IsTrueOver, IsBoundOf, CanGuide};
 ghost use Rattle.traffic_core.specs.Seen.{seen};
 ghost use Rattle.traffic_core.specs.Answers as spec;
@@ -29,7 +29,8 @@ use query_graph::QueryView;
 use std::alloc::Global;
 use weighting::{Side, WeightView, Weighting};
 
-/// The greatest weight of a route that is answered, in ms: whole numbers up to it are exact wherever they are read.
+/// The greatest weight of a route that is answered, in ms: whole numbers up to it are exact
+/// wherever they are read.
 const GREATEST_WEIGHT: u128 = 9_007_199_254_740_991;
 
 /// Two spots, and the nodes that stand for them in a view.
@@ -51,8 +52,8 @@ fn front_of(labels: LabelList, towers: u32) -> LabelList
     LabelList::from_vec(list)
 }
 
-/// The answer to a search from end to end: a least walk, or labels that show that no walk weighs less. It is
-/// right where the potential is feasible.
+/// The answer to a search from end to end: a least walk, or labels that show that no walk weighs
+/// less. It is right where the potential is feasible.
 fn answer_over<V: RoadView, P: Potential>(
     alloc: Global,
     graph: &BaseGraph,
@@ -67,10 +68,13 @@ fn answer_over<V: RoadView, P: Potential>(
     requires target { ends.target.0 < (V.network view.old).nodes }
     requires starts { V.starts view.old ≡ 0 }
     requires towers { length graph.now.lists.places ≤ (V.network view.old).nodes }
-    requires over { (hops : List Hop) → IsWalk (V.network view.old) ends.start.0 hops ends.target.0 → AreOver graph.now.lists hops }
-    ensures { IsFeasible (V.network view.old) (P.bound potential.now) ends.target.0 →
-        IfOk result (spec.IsRightAmong (λ hops. IsWalk (V.network view.old) ends.start.0 hops ends.target.0)
-        (record { network = V.network view.old; start = ends.start.0; target = ends.target.0; bound = P.bound potential.now })
+    requires over { (hops : List Hop) →
+        spec.IsWalkIn (V.network view.old) ends.start.0 ends.target.0 hops →
+        AreOver graph.now.lists hops }
+    ensures { let network = V.network view.old in
+        IsFeasible network (P.bound potential.now) ends.target.0 →
+        IfOk result (spec.IsRightAmong (spec.IsWalkIn network ends.start.0 ends.target.0)
+        (spec.plan_over network (P.bound potential.now) ends.start.0 ends.target.0)
         (mm_between graph.now.lists ends.from ends.to) (length graph.now.lists.places) labels) }
 {
     match search(alloc, view, potential, ends.start, ends.target)? {
@@ -134,9 +138,11 @@ fn answer_by<L: Limits, P: Potential>(
 ) -> Result<RouteAnswer, NoMemory>
     requires from { IsOn pieces.now.graph.now.lists from }
     requires to { IsOn pieces.now.graph.now.lists to }
-    ensures { let trip = trip_by pieces.now.weighting.now (L.limit_of pieces.now.limits.now) pieces.now.graph.now.lists from to in
+    ensures { let graph = pieces.now.graph.now.lists in
+        let limits = L.limit_of pieces.now.limits.now in
+        let trip = trip_by pieces.now.weighting.now limits graph from to in
         IsFeasible (trip_network trip) (P.bound potential.now) (trip_target trip) →
-        IfOk result (spec.IsRightAmong (IsWalkOf trip) (spec.plan_of trip (P.bound potential.now)) (mm_between pieces.now.graph.now.lists from to) (length pieces.now.graph.now.lists.places) labels) }
+        IfOk result (spec.IsRightTrip trip graph from to labels (P.bound potential.now)) }
 {
     let graph = pieces.graph;
     let towers = graph.node_count();
@@ -170,12 +176,17 @@ fn answer_between<L: Limits>(
     requires from { IsOn pieces.now.graph.now.lists from }
     requires to { IsOn pieces.now.graph.now.lists to }
     requires slow { IsSlowing pieces.now.weighting.now }
-    requires profile { IfSome prep (λ p. alone pieces.now.weighting.now ≡ rule_alone (profile_at ground.now.profiles p.now.profile)) }
-    requires prep { IfSome prep (λ p. CanGuide ground.now (L.limit_of pieces.now.limits.now) p.now.profile p.now) }
-    ensures { let trip = trip_by pieces.now.weighting.now (L.limit_of pieces.now.limits.now) pieces.now.graph.now.lists from to in
+    requires profile { IfSome prep (λ p. alone pieces.now.weighting.now
+        ≡ rule_alone (profile_at ground.now.profiles p.now.profile)) }
+    requires prep { IfSome prep (λ p.
+        CanGuide ground.now (L.limit_of pieces.now.limits.now) p.now.profile p.now) }
+    ensures { let graph = pieces.now.graph.now.lists in
+        let limits = L.limit_of pieces.now.limits.now in
+        let trip = trip_by pieces.now.weighting.now limits graph from to in
         IfSome prep.entry (λ p. IsTrueOver ground.now p.now) →
-        IfOk result (λ answer. (bound : ℕ → Option ℕ) × IsBoundOf ground.now trip from to (seen prep.entry) bound
-        × spec.IsRightAmong (IsWalkOf trip) (spec.plan_of trip bound) (mm_between pieces.now.graph.now.lists from to) (length pieces.now.graph.now.lists.places) labels answer) }
+        IfOk result (λ answer.
+        (bound : ℕ → Option ℕ) × IsBoundOf ground.now trip from to (seen prep.entry) bound
+        × spec.IsRightTrip trip graph from to labels bound answer) }
 {
     let Some(prep) = prep else {
         return answer_by(alloc, pieces, &FlatPotential, from, to, labels);
@@ -194,9 +205,9 @@ fn missing(place: Place, point: u32) -> RouteAnswer
     }
 }
 
-/// The answer to a query at present limits: a least walk between its places, or why there is none to give. A
-/// preparation, if there is one, guides the search. Where that is one of the profile at limits that were nowhere
-/// lower, the answer is right.
+/// The answer to a query at present limits: a least walk between its places, or why there is none
+/// to give. A preparation, if there is one, guides the search. Where that is one of the profile at
+/// limits that were nowhere lower, the answer is right.
 pub fn route<L: Limits>(
     alloc: Global,
     ground: &Ground,
@@ -209,9 +220,11 @@ pub fn route<L: Limits>(
     requires from { IsPlace query.now.from }
     requires to { IsPlace query.now.to }
     requires slow { OnlySlows (profile_at ground.now.profiles query.now.profile).model query.now.model.now }
-    requires prep { IfSome prep (λ p. CanGuide ground.now (L.limit_of limits.now) query.now.profile p.now) }
+    requires prep { IfSome prep (λ p.
+        CanGuide ground.now (L.limit_of limits.now) query.now.profile p.now) }
     ensures right { IfSome prep.entry (λ p. IsTrueOver ground.now p.now) →
-        IfOk result (spec.IsRightAnswer ground.now (L.limit_of limits.now) (seen prep.entry) (spec.asked query.now)) }
+        IfOk result (spec.IsRightAnswer ground.now (L.limit_of limits.now) (seen prep.entry)
+        (spec.asked query.now)) }
 {
     let Some(from) = ground.spot(query.profile, query.from) else {
         return Ok(missing(query.from, 1));

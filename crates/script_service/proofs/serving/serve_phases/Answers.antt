@@ -1,7 +1,5 @@
-use Rattle.std.proofs.Common.{◌≡◌, ◌∙◌, ◌<◌, ◌≤◌, [], List, length, get_or, ap, sym, refl, subst, arith}
-use Rattle.script_text.specs.declared.script.Line.{Line}
+use Rattle.std.proofs.Common.{◌∙◌, ◌<◌, length, get_or, ap, sym, refl, subst, arith}
 use Rattle.script_service.specs.Actors.{CanBeAsked, parts_in}
-use Rattle.script_service.specs.Writing.{lines_text}
 use Rattle.script_service.proofs.LineNumbers.{asked_here, awaits_first, awaits_here, awaits_next, named_here}
 use Rattle.script_service.proofs.PhaseServed.{front_more, phase_at, rose_later, underway_more, underway_none}
 use Rattle.script_service.proofs.serving.serve_phases.Goals as goal

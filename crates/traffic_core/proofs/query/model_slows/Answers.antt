@@ -1,7 +1,7 @@
 use Rattle.std.proofs.Common.{subst}
 use Rattle.model_eval.specs.declared.custom_model.CustomModel.{CustomModel}
 use Rattle.model_eval.specs.Slowing.{IsSlow}
-use Rattle.traffic_core.proofs.Asking.{only_slows}
+use Rattle.weighting.proofs.Falls.{only_slows}
 use Rattle.traffic_core.proofs.query.model_slows.Goals as goal
 
 pub returns : goal.returns
