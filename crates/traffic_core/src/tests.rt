@@ -20,39 +20,11 @@ use weighting::{Profile, Profiles};
 pub(crate) const ROW: &str =
     "n1 y0 x0\nn2 y0 x0.01\nn3 y0 x0.02\nw10 Thighway=secondary Nn1,n2\nw11 Thighway=secondary Nn2,n3\n";
 
-/// One such road, one way.
-const ONE_WAY: &str = "n1 y0 x0\nn2 y0 x0.01\nw10 Thighway=secondary,oneway=yes Nn1,n2\n";
-
-/// Two such roads side by side, 0.002 degrees apart.
-const SIDE_BY_SIDE: &str =
-    "n1 y0 x0\nn2 y0 x0.01\nn3 y0.002 x0\nn4 y0.002 x0.01\nw10 Thighway=secondary Nn1,n2\nw11 Thighway=secondary Nn3,n4\n";
-
 /// A road of 3335847 mm.
 const LONG: &str = "n1 y0 x0\nn2 y0 x0.03\nw10 Thighway=secondary Nn1,n2\n";
 
 /// A road for cars alone.
 const MOTORWAY: &str = "n1 y0 x0\nn2 y0 x0.01\nw10 Thighway=motorway Nn1,n2\n";
-
-/// A road for cars alone, and 0.002 degrees from it one for all, of 1111938 mm.
-const BY_THE_MOTORWAY: &str =
-    "n1 y0 x0\nn2 y0 x0.01\nn3 y0.002 x0\nn4 y0.002 x0.01\nw10 Thighway=motorway Nn1,n2\nw11 Thighway=secondary Nn3,n4\n";
-
-/// Two roads of 1111949 mm between the same towers, the first one way.
-const WITH_A_WAY_BACK: &str =
-    "n1 y0 x0\nn2 y0 x0.01\nw10 Thighway=secondary,oneway=yes Nn1,n2\nw11 Thighway=secondary Nn2,n1\n";
-
-/// A three-cornered road from a tower back to it. Its first and its last side are 1111949 mm long.
-const LOOP: &str = "n1 y0 x0\nn2 y0 x0.01\nn3 y0.01 x0\nw10 Thighway=secondary Nn1,n2,n3,n1\n";
-
-/// A one-way road of 2223898 mm from a tower back to it, out and back on one line.
-const ONE_WAY_LOOP: &str = "n1 y0 x0\nn2 y0 x0.01\nw10 Thighway=secondary,oneway=yes Nn1,n2,n1\n";
-
-/// Three roads that meet at one tower: 1111949 mm to its west, 2223898 to its east and 4447797 to its north.
-const JUNCTION: &str =
-    "n1 y0 x0\nn2 y0 x0.01\nn3 y0 x0.03\nn4 y0.04 x0.01\nw10 Thighway=secondary Nn1,n2\nw11 Thighway=secondary Nn2,n3\nw12 Thighway=secondary Nn4,n2\n";
-
-/// One road of two segments, of 1111949 and of 2223898 mm.
-const TWO_SEGMENTS: &str = "n1 y0 x0\nn2 y0 x0.01\nn3 y0 x0.03\nw10 Thighway=secondary Nn1,n2,n3\n";
 
 /// What cars may go on secondary roads, in milli-km/h.
 const SECONDARY: u32 = 60_000;
@@ -259,27 +231,13 @@ const fn at(lon: i32) -> Place {
     Place::At(Point { lat: 0, lon })
 }
 
-/// Halfway between the two roads side by side.
-const BETWEEN: Place = Place::At(Point {
-    lat: 10_000,
-    lon: 40_000,
-});
-
 const N1: Place = Place::Id(1);
 
 const N2: Place = Place::Id(2);
 
 const N3: Place = Place::Id(3);
 
-const N4: Place = Place::Id(4);
-
 const N9: Place = Place::Id(9);
-
-/// On the last side of the three-cornered road, a tenth of it from its end.
-const NEAR_THE_END: Place = Place::At(Point {
-    lat: 10_000,
-    lon: 0,
-});
 
 /// Each query has the answer that is wanted of it.
 fn hold(rt: &impl Abort, alloc: Global, cases: &[Case<'_>]) {
@@ -294,101 +252,21 @@ fn places_are_joined_by_least_walks(rt: HostRuntime) {
     let cases = [
         by_car(ROW, N1, N3, "route 133434 2223898 2 0+ 1+"),
         by_car(ROW, at(40_000), N1, "route 26687 444779 1 0-"),
-        by_car(ROW, at(40_000), N2, "route 40031 667170 2 0+"),
-        by_car(ONE_WAY, at(50_000), at(50_000), "route 0 0 1 0+"),
-        by_car(ONE_WAY, at(60_000), at(40_000), "noroute 2"),
-        by_car(ONE_WAY, N2, N2, "route 0 0 0"),
-        by_car(SIDE_BY_SIDE, BETWEEN, N1, "route 26687 444777 1 0-"),
-        by_car(SIDE_BY_SIDE, N1, N3, "noroute 2"),
-        by_car(ROW, N1, N9, "nonode 9"),
+        by_car(ROW, at(40_000), at(60_000), "route 13344 222390 1 0+"),
         by_car(ROW, N9, at(0), "nonode 9"),
-    ];
-    hold(&rt, rt.alloc(), cases.as_slice());
-}
-
-// At 60 km/h a mm takes 0.06 ms, and each piece is rounded up. Of 1111949 mm the points at 0.1, 0.4, 0.5 and 0.6 lie
-// 111194, 444779, 555974 and 667169 mm from the base, rounded down. In `route W MM S`, S counts the towers that are
-// nearer to the start than W ms, and the start itself.
-
-#[test]
-fn two_points_inside_one_edge_are_joined_by_a_piece_or_round(rt: HostRuntime) {
-    let (near, far) = (at(40_000), at(60_000));
-    let cases = [
-        // 667169 - 444779 = 222390 mm, which take 13343.4 ms; both towers are farther.
-        by_car(ROW, near, far, "route 13344 222390 1 0+"),
-        by_car(ROW, far, near, "route 13344 222390 1 0-"),
-        by_car(ONE_WAY, near, far, "route 13344 222390 1 0+"),
-        // 444780 mm to the end, the other road and 444779 mm: 26687 + 66717 + 26687 ms, by both towers.
-        by_car(
-            WITH_A_WAY_BACK,
-            far,
-            near,
-            "route 120091 2001508 3 0+ 1+ 0+",
-        ),
-        // 667170 mm of the first edge and 555974 of the second: 40031 + 33359 ms, past the first tower's 26687.
-        by_car(ROW, near, at(150_000), "route 73390 1223144 3 0+ 1+"),
-    ];
-    hold(&rt, rt.alloc(), cases.as_slice());
-}
-
-#[test]
-fn a_loop_road_joins_two_points_of_it_over_its_tower_too(rt: HostRuntime) {
-    let (first, near, far) = (at(10_000), at(40_000), at(60_000));
-    let cases = [
-        // 667169 - 111194 mm, which take 33358.5 ms; the tower is 6672 ms from the start.
-        by_car(LOOP, first, far, "route 33359 555975 2 0+"),
-        by_car(LOOP, far, first, "route 33359 555975 1 0-"),
-        // 111194 mm back to the tower, and the 111195 mm that lie behind 1000754 of the last side: twice 6672 ms.
-        by_car(LOOP, first, NEAR_THE_END, "route 13344 222389 2 0- 0-"),
-        by_car(LOOP, NEAR_THE_END, first, "route 13344 222389 2 0+ 0+"),
-        by_car(ONE_WAY_LOOP, near, far, "route 13344 222390 1 0+"),
-        // 2223898 - 667169 = 1556729 mm to the tower, and 444779: 93404 + 26687 ms.
-        by_car(ONE_WAY_LOOP, far, near, "route 120091 2001508 2 0+ 0+"),
-    ];
-    hold(&rt, rt.alloc(), cases.as_slice());
-}
-
-#[test]
-fn a_point_on_a_junction_is_its_tower_and_one_on_a_bend_is_not(rt: HostRuntime) {
-    let (met, beyond) = (at(100_000), at(200_000));
-    let cases = [
-        // No piece, and 2223898 mm in 133433.88 ms. The western tower is nearer, and the northern one isn't.
-        by_car(JUNCTION, met, N3, "route 133434 2223898 2 1+"),
-        by_car(JUNCTION, N4, met, "route 266868 4447797 1 2+"),
-        by_car(JUNCTION, N2, met, "route 0 0 0"),
-        by_car(JUNCTION, met, met, "route 0 0 0"),
-        // The bend lies 1111949 mm from the base, and the point beyond it half of the second segment, 1111949, farther.
-        by_car(TWO_SEGMENTS, met, N1, "route 66717 1111949 1 0-"),
-        by_car(TWO_SEGMENTS, beyond, N1, "route 133434 2223898 2 0-"),
-        // The nearest road for bikes is the farther one. At 18 km/h 444775 mm of it, 0.4 of 1111938, take 88955 ms.
-        Case {
-            vehicle: Vehicle::Bike,
-            ..by_car(BY_THE_MOTORWAY, at(40_000), N3, "route 88955 444775 1 1-")
-        },
     ];
     hold(&rt, rt.alloc(), cases.as_slice());
 }
 
 #[test]
 fn limits_and_models_count(rt: HostRuntime) {
-    let barred = (directed(1, false), 0);
-    let closed = (directed(0, false), 0);
-    let crawling = (directed(0, false), 1);
     let cases = [
         Case {
-            limit: barred,
+            limit: (directed(1, false), 0),
             ..by_car(ROW, N1, N3, "noroute 2")
         },
         Case {
-            limit: barred,
-            ..by_car(ROW, N3, N1, "route 133434 2223898 2 1- 0-")
-        },
-        Case {
-            limit: closed,
-            ..by_car(ONE_WAY, at(50_000), at(50_000), "noroute 1")
-        },
-        Case {
-            limit: crawling,
+            limit: (directed(0, false), 1),
             priority: 1,
             ..by_car(LONG, N1, N2, "overflow 12009049200000000")
         },
@@ -399,10 +277,6 @@ fn limits_and_models_count(rt: HostRuntime) {
         Case {
             vehicle: Vehicle::Bike,
             ..by_car(MOTORWAY, at(0), at(100_000), "nosnap 1")
-        },
-        Case {
-            vehicle: Vehicle::Bike,
-            ..by_car(MOTORWAY, N1, at(100_000), "nosnap 2")
         },
     ];
     hold(&rt, rt.alloc(), cases.as_slice());
