@@ -5,5 +5,6 @@ pub mod Sayings
 pub mod Marks
 pub mod Merges
 pub mod Nodes
+pub mod WaysOfPieces
 pub mod Numbers
 pub mod FirstRefusal

@@ -4,6 +4,7 @@ use Rattle.std.specs.Ordering.{int_eq}
 use Rattle.std.specs.Prelude.{ℕ, zero, suc, ◌+◌, ◌-◌, ◌≤◌, nat_le, ℤ, pos, Bool, true, false, ◌||◌, if◌then◌else◌, List, [], ◌∷◌, ◌++◌, length, map, slice_index_or, slice_range, count_by, All, ◌≡◌, fold, Option, Some, None, unwrap_or}
 use Rattle.std.specs.List.{dedup, filter_map, flat_map, list_any}
 use Rattle.std.specs.Option.{option_map}
+use Rattle.gh_base.specs.declared.map.OsmMap.{OsmMap}
 use Rattle.gh_base.specs.declared.map.OsmNode.{OsmNode}
 use Rattle.gh_base.specs.declared.map.OsmWay.{OsmWay}
 use Rattle.gh_base.specs.declared.map.Point.{Point}
@@ -75,6 +76,18 @@ pieces_of_way tower way = map (piece_of way) (cut tower way.refs)
 -- the pieces of all used ways, in map order
 abbrev pub pieces_of : (ℤ → Bool) → List UsedWay → List Piece
 pieces_of tower ways = flat_map (pieces_of_way tower) ways
+
+-- those of a map: edge i is that of the i-th
+abbrev pub pieces_in : OsmMap → List Piece
+pieces_in m = pieces_of (is_tower (used_ways m.ways)) (used_ways m.ways)
+
+-- the ways that pieces belong to
+abbrev pub way_ids : List Piece → List ℤ
+way_ids pieces = map (λ piece. piece.way) pieces
+
+-- the way that each edge of a map comes from
+unfoldable pub ways_of_edges : OsmMap → List ℤ
+ways_of_edges m = way_ids (pieces_in m)
 
 -- where a node stands, if there is one of this id
 abbrev pub place_in : List OsmNode → ℤ → Option Point

@@ -9,6 +9,7 @@ mod builder;
 mod faults;
 mod laws;
 mod lines;
+mod origins;
 mod places;
 mod roads;
 mod towers;
@@ -16,6 +17,7 @@ mod used;
 
 pub use faults::ImportFault;
 pub use laws::{edges_are_pieces, pieces_join_towers, the_first_that_cannot_stand_is_refused};
+pub use origins::ways_of_edges;
 pub use roads::{Roads, import};
 
 #[cfg(test)]
