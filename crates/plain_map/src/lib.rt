@@ -20,5 +20,6 @@ mod texts;
 pub use fault::PlainFault;
 pub use gh_base::PlainKind;
 pub use law::maps_are_read_again;
-pub use printing::print_plain;
+pub use printing::{print_plain, send_block};
 pub use reading::read_plain;
+pub use texts::{push_coordinate, push_id, push_natural};

@@ -12,8 +12,9 @@ use std::alloc::Global;
 /// How many bytes wait before they are given.
 const BLOCK: usize = 65536;
 
+/// Gives what waits, where it is a block or more.
 #[tactic(auto, using(crate::proofs::Sent::sends_all, crate::proofs::Sent::sends_none))]
-fn send_block<K: Sink>(sink: &mut K, waiting: &mut Vec<u8>) -> Result<(), Failed>
+pub fn send_block<K: Sink>(sink: &mut K, waiting: &mut Vec<u8>) -> Result<(), Failed>
     ensures ok { OnOk result (Sends (K.held sink.old) (K.held sink.new) waiting.old.items waiting.new.items) }
     ensures err { OnErr result (AppendsFront (K.held sink.old) (K.held sink.new) waiting.old.items) }
     ensures cause { HasCause (K.faults sink.old) (K.faults sink.new) result }

@@ -12,7 +12,8 @@ const UNITS_OF_DEGREE: u32 = 10000000;
 /// How many places behind the dot a unit has.
 const PLACES: u32 = 7;
 
-fn push_id(alloc: Global, out: &mut Vec<u8>, id: i64) -> Result<(), NoMemory>
+/// Appends an id.
+pub fn push_id(alloc: Global, out: &mut Vec<u8>, id: i64) -> Result<(), NoMemory>
     ensures { OnOk result (out.new.items ≡ out.old.items ++ signed_decimal id) }
 {
     let text = id.to_string(alloc)?;
@@ -20,7 +21,8 @@ fn push_id(alloc: Global, out: &mut Vec<u8>, id: i64) -> Result<(), NoMemory>
     Ok(())
 }
 
-fn push_natural(alloc: Global, out: &mut Vec<u8>, n: u32) -> Result<(), NoMemory>
+/// Appends a number in decimal digits.
+pub fn push_natural(alloc: Global, out: &mut Vec<u8>, n: u32) -> Result<(), NoMemory>
     ensures { OnOk result (out.new.items ≡ out.old.items ++ decimal n) }
 {
     let text = n.to_string(alloc)?;
@@ -56,7 +58,8 @@ fn push_degrees(alloc: Global, out: &mut Vec<u8>, n: u32) -> Result<(), NoMemory
     Ok(())
 }
 
-fn push_coordinate(alloc: Global, out: &mut Vec<u8>, z: i32) -> Result<(), NoMemory>
+/// Appends a coordinate in degrees, with as few digits as it takes.
+pub fn push_coordinate(alloc: Global, out: &mut Vec<u8>, z: i32) -> Result<(), NoMemory>
     ensures { OnOk result (out.new.items ≡ out.old.items ++ coordinate_text z) }
 {
     if z < 0 {
