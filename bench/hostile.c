@@ -4,8 +4,8 @@
 //
 // By the environment: FAIL_REQUEST=N refuses the Nth request for memory, with FAIL_ON=1 all behind it too; FAIL_READ=N and
 // FAIL_WRITE=N fail the Nth read or write of standard output with ERROR (EIO where none is named); SHORT_READ=1 and SHORT_WRITE=1 move
-// one byte a call; NO_THREADS=1 makes no thread; SHRINK=FILE is cut to SHRINK_TO bytes at the read SHRINK_AT; COUNTS=FILE is
-// written at the end: how many requests, reads and writes there were.
+// one byte a call; NO_THREADS=1 makes no thread; SHRINK=FILE is cut to SHRINK_TO bytes at the read SHRINK_AT; COUNTS=FILE, of 24
+// bytes, has how many requests, reads and writes there were.
 #define _GNU_SOURCE
 #ifdef LAUNCHER
 #include <stdio.h>
@@ -33,10 +33,12 @@ int main(int count, char **words) {
 #else
 #include <dlfcn.h>
 #include <errno.h>
+#include <fcntl.h>
 #include <pthread.h>
 #include <stdatomic.h>
 #include <stdio.h>
 #include <stdlib.h>
+#include <sys/mman.h>
 #include <sys/syscall.h>
 #include <unistd.h>
 
@@ -44,7 +46,8 @@ extern void *__libc_malloc(size_t), *__libc_calloc(size_t, size_t), *__libc_real
 
 typedef int make_thread(pthread_t *, const pthread_attr_t *, void *(*)(void *), void *);
 
-static atomic_long requests, reads, writes;
+// how many requests, reads and writes there were; in COUNTS, so that they stand however the program ends
+static atomic_long own[3], *counts = own;
 static long fail_request, fail_on, fail_read, fail_write, short_read, short_write, no_threads, shrink_at, shrink_to, failure;
 static const char *shrinks;
 static make_thread *next_make_thread;
@@ -63,20 +66,15 @@ __attribute__((constructor)) static void begin(void) {
     failure = getenv("ERROR") ? number("ERROR") : EIO;
     shrinks = getenv("SHRINK");
     next_make_thread = (make_thread *)dlsym(RTLD_NEXT, "pthread_create");
+    int file = getenv("COUNTS") ? open(getenv("COUNTS"), O_RDWR) : -1;
+    void *kept = file < 0 ? MAP_FAILED : mmap(NULL, sizeof own, PROT_READ | PROT_WRITE, MAP_SHARED, file, 0);
+    if (kept != MAP_FAILED)
+        counts = kept;
     ready = 1;
 }
 
-__attribute__((destructor)) static void end(void) {
-    ready = 0;
-    FILE *file = getenv("COUNTS") ? fopen(getenv("COUNTS"), "w") : NULL;
-    if (file) {
-        fprintf(file, "%ld %ld %ld\n", requests, reads, writes);
-        fclose(file);
-    }
-}
-
 static int is_refused(void) {
-    long place = ready ? ++requests : 0;
+    long place = ready ? ++counts[0] : 0;
     int is_it = fail_request && place && (fail_on ? place >= fail_request : place == fail_request);
     if (is_it)
         errno = ENOMEM;
@@ -94,7 +92,7 @@ int posix_memalign(void **out, size_t align, size_t size) {
 }
 
 ssize_t read(int file, void *into, size_t size) {
-    long place = ++reads;
+    long place = ++counts[1];
     if (place == fail_read)
         return errno = failure, -1;
     if (place == shrink_at && truncate(shrinks, shrink_to) != 0)
@@ -103,7 +101,7 @@ ssize_t read(int file, void *into, size_t size) {
 }
 
 ssize_t write(int file, const void *from, size_t size) {
-    if (file == 1 && ++writes == fail_write)
+    if (file == 1 && ++counts[2] == fail_write)
         return errno = failure, -1;
     return syscall(SYS_write, file, from, short_write && size ? 1 : size);
 }
