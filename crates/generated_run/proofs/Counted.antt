@@ -17,3 +17,9 @@ state_next size k x is = rw (add-one k) (ap next is)
 -- a draw of the list
 pub drawn : (size : ℕ) (draws : List ℕ) (n : ℕ) → draws ≡ map (draw size) (range_with_len 0 (length draws)) → n < length draws → get_or draws n 0 ≡ draw size n
 drawn size draws n are below = ap (λ xs. get_or xs n 0) are ∙ get_or-map-range_with_len (draw size) 0 (length draws) n n 0 below (zero-add n)
+
+-- one more at the end, behind a head
+pub pushed_behind : {X : Type 0} (head : X) (f : ℕ → X) (before after : List X) (n : ℕ) (x : X) → before ≡ head ∷ map f (range_with_len 0 n) → after ≡ before ++ x ∷ [] → x ≡ f n →
+    after ≡ head ∷ map f (range_with_len 0 (n + 1))
+pushed_behind head f before after n x is more here =
+    more ∙ ap (λ xs. xs ++ x ∷ []) is ∙ ap (λ xs. head ∷ xs) (ap (λ y. map f (range_with_len 0 n) ++ y ∷ []) here ∙ sym (map-range_with_len_more f 0 n n (zero-add n)))

@@ -13,11 +13,11 @@ use Rattle.map_import.proofs.Numbers.{same_id, id_is_itself}
 use Rattle.generated_run.specs.Maps.{id_at, node_at}
 
 not_true : (b : Bool) → (b ≡ true → ⊥) → b ≡ false
-not_true true no = absurd (no refl)
-not_true false no = refl
+not_true true never = absurd (never refl)
+not_true false never = refl
 
 pub differ : (a b : ℤ) → (a ≡ b → ⊥) → int_eq a b ≡ false
-differ a b no = not_true (int_eq a b) (λ t. no (same_id a b t))
+differ a b never = not_true (int_eq a b) (λ t. never (same_id a b t))
 
 pub pos_differ : (a b : ℕ) → a < b → pos a ≡ pos b → ⊥
 pos_differ a b lt e = let same : a ≡ b = cc in omega arith

@@ -4,7 +4,7 @@ use Rattle.std.specs.Prelude.{◌||◌, ◌==◌, nat_le, nat_lt, codes, if◌th
 use Rattle.std.specs.List.{count_by, dedup, dedup_from, filter_map, flat_map, range_with_len, list_any}
 use Rattle.std.specs.Ordering.{int_eq}
 use Rattle.std.proofs.lemmas.Bool.{cases_lt, lt-ltb, le-ltb, le-leb}
-use Rattle.std.proofs.lemmas.List.Sums.{sum_by-append}
+use Rattle.std.proofs.lemmas.List.Sums.{sum_by-append, sum_by-cons}
 use Rattle.std.proofs.lemmas.List.Folds.{flat_map-map}
 use Rattle.std.proofs.lemmas.List.FromFn.{length-map-range_with_len}
 use Rattle.encoded_values.specs.Values.{TwoValues}
@@ -83,13 +83,16 @@ ways_used size count two = ways_from size 0 count two
 count-append : (p : ℤ → Bool) (xs ys : List ℤ) → count_by p (xs ++ ys) ≡ count_by p xs + count_by p ys
 count-append p xs ys = sum_by-append (λ (x : ℤ). cond (p x) 1 0) xs ys
 
+counts-cons : (p : ℤ → Bool) (x : ℤ) (xs : List ℤ) → count_by p (x ∷ xs) ≡ cond (p x) 1 0 + count_by p xs
+counts-cons p x xs = sum_by-cons (λ (y : ℤ). cond (p y) 1 0) x xs
+
 counts_head : (p : ℤ → Bool) (x : ℤ) (xs : List ℤ) → p x ≡ true → count_by p (x ∷ xs) ≡ 1 + count_by p xs
-counts_head p x xs is = rw is refl
+counts_head p x xs is = counts-cons p x xs ∙ ap (λ b. cond b 1 0 + count_by p xs) is
 
 counts_at : (p : ℤ → Bool) (f : ℕ → ℤ) (a k i : ℕ) → a ≤ i → i < a + k → p (f i) ≡ true → 1 ≤ count_by p (map f (range_with_len a k))
 counts_at p f a zero i low below is = absurd (omega arith)
 counts_at p f a (suc k) i low below is = elim (cases_lt a i) [
-  | inl lt ↦ let more = counts_at p f (a + 1) k i (omega arith) (omega arith) is in omega (arith, more)
+  | inl lt ↦ let more = counts_at p f (a + 1) k i (omega arith) (omega arith) is in omega (arith, more, counts-cons p (f a) (map f (range_with_len (a + 1) k)))
   | inr le ↦ let same : i ≡ a = omega arith in omega (arith, counts_head p (f a) (map f (range_with_len (a + 1) k)) (ap (λ n. p (f n)) (sym same) ∙ is))
 ]
 

@@ -69,7 +69,7 @@ fn class_of(draw: u32) -> &'static str
     }
 }
 
-fn text(alloc: Global, of: &str) -> Result<Text, NoMemory>
+pub(crate) fn text(alloc: Global, of: &str) -> Result<Text, NoMemory>
     ensures { IfOk result (λ text. text ≡ of.now) }
 {
     let mut text = Text::new(alloc);

@@ -8,3 +8,4 @@
 
 mod drawing;
 mod grid_map;
+mod scripting;
