@@ -5,3 +5,5 @@ pub mod GridNodes
 pub mod GridWays
 pub mod GridRoads
 pub mod ShortLines
+pub mod Sums
+pub mod Runs

@@ -3,16 +3,15 @@ use Rattle.std.proofs.Common.{◌≡◌, ◌∙◌, ℕ, ◌+◌, ◌<◌, ◌�
 use Rattle.std.specs.Prelude.{slice_get}
 use Rattle.std.proofs.lemmas.Option.{get_or_from_slice_get}
 use Rattle.weighting.specs.declared.profile.Profile.{Profile}
-use Rattle.traffic_core.specs.declared.entry.Entry.{Entry}
 use Rattle.traffic_core.specs.Lands.{Land}
 use Rattle.script_text.specs.declared.script.Line.{Line}
 use Rattle.script_text.specs.declared.script.Script.{Script}
-use Rattle.script_text.specs.Scripts.{AreNumbered, IsScript, lines_of}
+use Rattle.script_text.specs.Scripts.{IsScript, lines_of}
 use Rattle.traffic_share.specs.Seats.{Place}
 use Rattle.script_service.specs.Answering.{lines}
 use Rattle.script_service.specs.Fitting.{by_actor}
 use Rattle.script_service.specs.Actors.{Acting, AreSeated, Awaits, CanBeAsked, Continues, StaysBelow, parts_in}
-use Rattle.script_service.specs.Underway.{AreReady, HasPhase, phase_of}
+use Rattle.script_service.specs.Underway.{AreReady, HasPhase}
 use Rattle.script_service.proofs.LineNumbers.{asked_here, awaits_first, awaits_here, awaits_next}
 
 -- the phase that a script gives

@@ -1,5 +1,5 @@
 -- The replies that actors hand over, phase by phase.
-use Rattle.std.proofs.Common.{◌≡◌, ◌∙◌, ℕ, ◌+◌, ◌<◌, ◌≤◌, List, [], ◌∷◌, ◌++◌, length, get_or, map, drop, take, None, All, arith, ap, sym, subst, refl}
+use Rattle.std.proofs.Common.{◌≡◌, ◌∙◌, ℕ, ◌+◌, ◌<◌, List, [], ◌∷◌, ◌++◌, length, get_or, map, drop, take, None, All, arith, ap, sym, subst, refl}
 use Rattle.std.proofs.lemmas.List.{flat_map_more, map-append, take_more}
 use Rattle.traffic_core.specs.declared.entry.Entry.{Entry}
 use Rattle.traffic_core.specs.Lands.{Land}
@@ -10,7 +10,7 @@ use Rattle.script_text.specs.declared.script.Script.{Script}
 use Rattle.script_text.specs.Scripts.{lines_of}
 use Rattle.script_service.specs.declared.actor.Heard.{Heard}
 use Rattle.script_service.specs.Answering.{Answered, joined}
-use Rattle.script_service.specs.Actors.{Acting, Awaits, Know, heard_in, part_in, parts_in}
+use Rattle.script_service.specs.Actors.{Acting, Know, heard_in, part_in, parts_in}
 use Rattle.script_service.specs.Collecting.{HasCollected, HasHanded, heard_by, replies, replies_heard}
 use Rattle.script_service.specs.Going.{Knowing, Knows}
 use Rattle.script_service.specs.Answering.{own_of}

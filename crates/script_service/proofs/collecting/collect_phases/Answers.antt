@@ -1,4 +1,4 @@
-use Rattle.std.proofs.Common.{◌≡◌, ◌∙◌, ap, subst, sym, List, refl, arith, []}
+use Rattle.std.proofs.Common.{subst, sym, List, arith}
 use Rattle.script_service.specs.declared.actor.Heard.{Heard}
 use Rattle.script_service.specs.Collecting.{HasCollected}
 use Rattle.script_service.proofs.ToldReplies.{collected_more, collected_none, ready_handed}
@@ -9,7 +9,7 @@ loop-place-init g c =
     let none = collected_none g.J.Naming.land c.args.script.now c.args.service.now.entries c.args.actors.now c.requires.nothing c.requires.none in
     record {
       ready = c.requires.ready;
-      collected = ?;
+      collected = subst (λ (heard : List Heard). HasCollected g.J.Naming.land c.args.script.now c.args.service.now.entries c.args.actors.now 0 heard) (sym c.new-heard.ensures.items) none;
     }
 
 pub loop-place-preserved : goal.loop-place-preserved
