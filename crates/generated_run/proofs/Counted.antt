@@ -1,5 +1,5 @@
 -- Lists of a value for each number.
-use Rattle.std.proofs.Common.{◌≡◌, ◌∙◌, ap, sym, refl, subst, arith, add-one, ℕ, ◌+◌, List, [], ◌∷◌, ◌++◌, map, zero-add, ◌<◌, length, get_or}
+use Rattle.std.proofs.Common.{◌≡◌, ◌∙◌, ap, sym, add-one, ℕ, ◌+◌, List, [], ◌∷◌, ◌++◌, map, zero-add, ◌<◌, length, get_or}
 use Rattle.std.specs.List.{range_with_len}
 use Rattle.std.proofs.lemmas.List.FromFn.{map-range_with_len_more, get_or-map-range_with_len}
 use Rattle.generated_run.specs.Draws.{draw, next, state_after}

@@ -1,15 +1,13 @@
 -- The script of a size is one that could have been read.
-use Rattle.std.proofs.Common.{◌≡◌, ◌∙◌, ℕ, zero, suc, ◌+◌, ◌*◌, ◌<◌, ◌≤◌, Bool, true, false, List, [], ◌∷◌, ◌++◌, length, get_or, map, take, All, inl, inr, ap, sym, subst, refl, arith, append_assoc, append-nil, length-append, eqb-true}
-use Rattle.std.specs.Prelude.{◌&&◌, ◌==◌, IsTrue, codes}
+use Rattle.std.proofs.Common.{◌≡◌, ◌∙◌, ℕ, zero, suc, ◌+◌, ◌<◌, Bool, true, false, List, [], ◌∷◌, ◌++◌, length, get_or, map, take, All, ap, sym, subst, refl, arith, append_assoc, append-nil, eqb-true}
+use Rattle.std.specs.Prelude.{◌&&◌, ◌==◌, IsTrue}
 use Rattle.std.specs.List.{range_with_len}
 use Rattle.std.specs.Str.{bytes_eq}
-use Rattle.std.proofs.lemmas.List.Elements.{All-append, All-push, All-nil}
+use Rattle.std.proofs.lemmas.List.Elements.{All-append, All-nil}
 use Rattle.std.proofs.lemmas.List.FromFn.{length-map-range_with_len, get_or-map-range_with_len}
-use Rattle.std.proofs.lemmas.List.Quantifiers.{all_pairs_push}
 use Rattle.script_text.specs.declared.script.Line.{Line}
-use Rattle.script_text.specs.declared.script.Script.{Script}
 use Rattle.script_text.specs.Names.{is_name}
-use Rattle.script_text.specs.Scripts.{AreActors, AreLines, AreNumbered, IsLine, IsScript, lines_of, turns_of}
+use Rattle.script_text.specs.Scripts.{AreActors, AreNumbered, IsLine, IsScript, lines_of, turns_of}
 use Rattle.generated_run.specs.Scripts.{lowering_at, names, phases_of, preparing, profiles, publishing, route_at, script_of}
 use Rattle.generated_run.proofs.DefaultProfile.{default_profile}
 

@@ -1,16 +1,15 @@
 -- Nodes of the grid: their ids differ, and each is found by its id.
-use Rattle.std.proofs.Common.{◌≡◌, ◌∙◌, ℕ, zero, suc, ◌+◌, ◌*◌, ◌/◌, ◌%◌, ◌<◌, ◌≤◌, ℤ, pos, Bool, true, false, List, [], ◌∷◌, ◌++◌, map, Option, Some, None, inl, inr, ap, sym, subst, refl, arith, zero-add, add-one}
+use Rattle.std.proofs.Common.{◌≡◌, ◌∙◌, ℕ, zero, suc, ◌+◌, ◌*◌, ◌/◌, ◌%◌, ◌<◌, ◌≤◌, ℤ, pos, Bool, true, false, List, [], ◌∷◌, ◌++◌, map, Some, None, inl, inr, ap, sym, subst, refl, arith, zero-add}
 use Rattle.std.specs.List.{range_with_len}
 use Rattle.std.specs.Ordering.{int_eq}
 use Rattle.std.proofs.Math.Nat.{div-add-mod}
 use Rattle.std.proofs.lemmas.Bool.{cases_lt}
 use Rattle.std.proofs.lemmas.List.FromFn.{map-range_with_len_more}
 use Rattle.gh_base.specs.declared.map.OsmNode.{OsmNode}
-use Rattle.gh_base.specs.declared.map.Point.{Point}
 use Rattle.map_import.specs.Roads.{place_in}
 use Rattle.map_import.specs.Refusals.{first_twice, twice_behind}
 use Rattle.map_import.proofs.Numbers.{same_id, id_is_itself}
-use Rattle.generated_run.specs.Maps.{id_at, node_at}
+use Rattle.generated_run.specs.Maps.{node_at}
 
 not_true : (b : Bool) → (b ≡ true → ⊥) → b ≡ false
 not_true true never = absurd (never refl)
@@ -45,7 +44,7 @@ node_there size a (suc k) n low below = elim (cases_lt a n) [
   | inr le ↦
       let same : a ≡ n = omega arith in
       let here : int_eq (node_at size a).id (pos (n + 1)) ≡ true =
-          subst (λ z. int_eq z (pos (n + 1)) ≡ true) (sym (id_is size a ∙ ap (λ m. pos (m + 1)) same)) (id_is_itself (pos (n + 1))) in
+      subst (λ z. int_eq z (pos (n + 1)) ≡ true) (sym (id_is size a ∙ ap (λ m. pos (m + 1)) same)) (id_is_itself (pos (n + 1))) in
       head_found (node_at size a) (map (node_at size) (range_with_len (a + 1) k)) (pos (n + 1)) here ∙ ap (λ m. Some (node_at size m).place) same
 ]
 

@@ -1,18 +1,14 @@
 -- The roads of the grid: no node is missing, and each piece between neighbours is an edge.
-use Rattle.std.proofs.Common.{◌≡◌, ◌∙◌, ℕ, zero, suc, ◌+◌, ◌-◌, ◌*◌, ◌/◌, ◌%◌, ◌<◌, ◌≤◌, ℤ, pos, neg_ℤ, ◌-ℤ◌, Bool, true, false, cond, List, [], ◌∷◌, ◌++◌, length, map, Option, Some, None, Ok, inl, inr, ap, sym, subst, refl, arith, zero-add, length-append}
-use Rattle.std.specs.Prelude.{nat_le, nat_lt, not, find, unwrap_or}
-use Rattle.std.specs.Option.{is_some}
-use Rattle.std.specs.Int.RustNames.{unsigned_abs}
-use Rattle.std.specs.List.{flat_map, range_with_len}
+use Rattle.std.proofs.Common.{◌≡◌, ◌∙◌, ℕ, zero, suc, ◌+◌, ◌-◌, ◌*◌, ◌/◌, ◌%◌, ◌<◌, ◌≤◌, ℤ, Bool, true, false, cond, List, [], ◌∷◌, ◌++◌, length, map, Option, Some, None, Ok, ap, sym, subst, refl, arith, length-append}
+use Rattle.std.specs.Prelude.{nat_lt, unwrap_or}
+use Rattle.std.specs.List.{range_with_len}
 use Rattle.std.proofs.lemmas.Bool.{le-ltb, lt-leb, ltb-false, ltb-true}
 use Rattle.std.proofs.lemmas.List.FromFn.{length-map-range_with_len}
-use Rattle.std.proofs.lemmas.Nat.{ mul-le, div_below, mod_below}
-use Rattle.gh_base.specs.declared.map.OsmMap.{OsmMap}
+use Rattle.std.proofs.lemmas.Nat.{mul-le, div_below, mod_below}
 use Rattle.gh_base.specs.declared.map.Point.{Point}
-use Rattle.encoded_values.specs.Values.{TwoValues}
-use Rattle.map_import.specs.Refusals.{Laid, first_missing, lay, lay_all, missing_of, missing_or, nothing, roads}
-use Rattle.map_import.specs.Roads.{Piece, UsedWay, cut, cut_from, first_of, is_tower, last_of, line_length, edge_of, origin, piece_of, pieces_of, pieces_of_way, place_at, place_in, points_along, used_ways, with_tower, with_towers, is_numbered}
-use Rattle.generated_run.specs.Maps.{id_at, map_of, node_at, ref_at, refs_of, way_at}
+use Rattle.map_import.specs.Refusals.{Laid, first_missing, lay, lay_all, missing_of, nothing, roads}
+use Rattle.map_import.specs.Roads.{Piece, UsedWay, cut, cut_from, first_of, is_tower, last_of, line_length, edge_of, origin, piece_of, pieces_of, pieces_of_way, place_at, place_in, points_along, with_tower, with_towers, is_numbered}
+use Rattle.generated_run.specs.Maps.{id_at, map_of, node_at, ref_at}
 use Rattle.generated_run.proofs.GridNodes.{node_there, nodes_once}
 use Rattle.generated_run.proofs.GridWays.{node_is_tower, used_at, used_refs, ways_used}
 use Rattle.generated_run.proofs.ShortLines.{IsNear, near_are_short}

@@ -1,18 +1,17 @@
 -- Ways of the grid: each is used, and each of its nodes is a tower, since it stands in a row and in a column.
-use Rattle.std.proofs.Common.{◌≡◌, ◌∙◌, ℕ, zero, suc, ◌+◌, ◌-◌, ◌*◌, ◌/◌, ◌%◌, ◌<◌, ◌≤◌, ℤ, pos, Bool, true, false, cond, List, [], ◌∷◌, ◌++◌, length, map, Option, Some, None, inl, inr, ap, sym, subst, refl, arith, zero-add, add-one}
-use Rattle.std.specs.Prelude.{◌||◌, ◌==◌, nat_le, nat_lt, codes, if◌then◌else◌}
-use Rattle.std.specs.List.{count_by, dedup, dedup_from, filter_map, flat_map, range_with_len, list_any}
+use Rattle.std.proofs.Common.{◌≡◌, ◌∙◌, ℕ, zero, suc, ◌+◌, ◌-◌, ◌*◌, ◌%◌, ◌<◌, ◌≤◌, ℤ, pos, Bool, true, false, cond, List, [], ◌∷◌, ◌++◌, map, Some, inl, inr, ap, sym, subst, refl, arith}
+use Rattle.std.specs.Prelude.{◌||◌, ◌==◌, nat_lt, codes}
+use Rattle.std.specs.List.{count_by, dedup_from, flat_map, range_with_len}
 use Rattle.std.specs.Ordering.{int_eq}
 use Rattle.std.proofs.lemmas.Bool.{cases_lt, lt-ltb, le-ltb, le-leb}
 use Rattle.std.proofs.lemmas.List.Sums.{sum_by-append, sum_by-cons}
-use Rattle.std.proofs.lemmas.List.Folds.{flat_map-map}
 use Rattle.std.proofs.lemmas.List.FromFn.{length-map-range_with_len}
 use Rattle.encoded_values.specs.Values.{TwoValues}
 use Rattle.gh_base.specs.declared.map.OsmTag.{OsmTag}
 use Rattle.gh_base.specs.declared.map.OsmWay.{OsmWay}
 use Rattle.tag_rules.specs.Values.{values_by}
-use Rattle.map_import.specs.Roads.{UsedWay, is_end_of, is_tower, merged, times, used_of, used_ways}
-use Rattle.map_import.proofs.Merges.{is_used, record_of}
+use Rattle.map_import.specs.Roads.{UsedWay, is_tower, merged, times, used_of, used_ways}
+use Rattle.map_import.proofs.Merges.{is_used}
 use Rattle.map_import.proofs.Numbers.{id_is_itself}
 use Rattle.generated_run.specs.Draws.{draw}
 use Rattle.generated_run.specs.Maps.{class_of, id_at, ref_at, refs_of, way_at}

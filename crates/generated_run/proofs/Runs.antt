@@ -1,6 +1,6 @@
 -- A run of a size.
-use Rattle.std.proofs.Common.{◌≡◌, ◌∙◌, ◌≢◌, ℕ, ◌+◌, ◌-◌, ◌*◌, ◌≤◌, ◌<◌, ℤ, List, ◌++◌, length, map, ap, sym, subst, refl}
-use Rattle.std.specs.Prelude.{Result, Ok, Err}
+use Rattle.std.proofs.Common.{◌≡◌, ◌∙◌, ◌≢◌, ℕ, ◌-◌, ◌*◌, ◌≤◌, ℤ, List, ◌++◌, length, map, ap, sym, subst, refl}
+use Rattle.std.specs.Prelude.{Ok, Err}
 use Rattle.std.specs.List.{range_with_len}
 use Rattle.std.proofs.lemmas.List.FromFn.{length-map-range_with_len}
 use Rattle.gh_base.specs.declared.map.OsmMap.{OsmMap}
@@ -19,7 +19,7 @@ use Rattle.script_text.specs.declared.reply.Reply.{Reply}
 use Rattle.script_service.specs.declared.collecting.Answers.{Answers}
 use Rattle.script_service.specs.Answering.{joined}
 use Rattle.script_service.specs.Collecting.{AreAnswers, replies, replies_heard}
-use Rattle.script_service.specs.Writing.{Fits, journal_text, lines_text}
+use Rattle.script_service.specs.Writing.{journal_text, lines_text}
 use Rattle.generated_run.specs.declared.summing.Summary.{Summary}
 use Rattle.generated_run.specs.Generating.{AreRoadsOfSize, IsRunOf}
 use Rattle.generated_run.specs.Laws.{AreSameRoads}
@@ -37,6 +37,14 @@ never_refused size map e two few is other refuses =
     let laid = grid.is in
     let refused : roads (map_of size) ≡ Err e = ap roads (sym is) ∙ refuses other in
     cc
+
+pub only_memory : (size : ℕ) (map : OsmMap) (e : ImportFault) → 2 ≤ size → size ≤ 300 → map ≡ map_of size → Refuses (roads map) e → e ≡ fault.NoMemory
+only_memory size map fault.NoMemory two few is refuses = refl
+only_memory size map (fault.TwiceNode id) two few is refuses = absurd (never_refused size map (fault.TwiceNode id) two few is (λ same. cc) refuses)
+only_memory size map (fault.MissingNode way node) two few is refuses = absurd (never_refused size map (fault.MissingNode way node) two few is (λ same. cc) refuses)
+only_memory size map (fault.TooLong way) two few is refuses = absurd (never_refused size map (fault.TooLong way) two few is (λ same. cc) refuses)
+only_memory size map fault.TooManyEdges two few is refuses = absurd (never_refused size map fault.TooManyEdges two few is (λ same. cc) refuses)
+only_memory size map fault.TooManyNodes two few is refuses = absurd (never_refused size map fault.TooManyNodes two few is (λ same. cc) refuses)
 
 -- and it has so many edges
 pub edge_count : (size : ℕ) (map : OsmMap) (to : Laid) → 2 ≤ size → size ≤ 300 → map ≡ map_of size → roads map ≡ Ok to → length to.edges ≡ 2 * size * (size - 1)

@@ -1,11 +1,11 @@
 -- Lines between two points near the origin are short.
-use Rattle.std.proofs.Common.{◌≡◌, ◌∙◌, ℕ, zero, suc, ◌+◌, ◌-◌, ◌*◌, ◌/◌, ◌<◌, ◌≤◌, ℤ, pos, negsuc, neg_ℤ, ◌-ℤ◌, Bool, true, false, cond, List, [], ◌∷◌, inl, inr, ap, sym, subst, refl, arith}
+use Rattle.std.proofs.Common.{◌≡◌, ℕ, zero, suc, ◌+◌, ◌-◌, ◌*◌, ◌<◌, ◌≤◌, ℤ, pos, neg_ℤ, ◌-ℤ◌, Bool, true, false, cond, [], ◌∷◌, inl, inr, sym, subst, refl, arith}
 use Rattle.std.specs.Prelude.{int_lt}
 use Rattle.std.specs.Int.RustNames.{unsigned_abs}
 use Rattle.std.proofs.lemmas.Bool.{cases_lt}
 use Rattle.std.proofs.lemmas.Nat.{mul-le, div_below}
 use Rattle.gh_base.specs.declared.map.Point.{Point}
-use Rattle.geo_math.specs.Lengths.{diagonal, middle, root, scaled, scaled_size, segment_length, signed_as}
+use Rattle.geo_math.specs.Lengths.{diagonal, middle, root, scaled, scaled_size, segment_length}
 use Rattle.geo_math.proofs.Squares.{root_is}
 use Rattle.map_import.specs.Roads.{line_length}
 
@@ -59,9 +59,9 @@ segment_short a b near_a near_b =
     let is_a = near_a.is in
     let is_b = near_b.is in
     let north : unsigned_abs (b.lat -ℤ a.lat) ≤ 30000000 =
-        subst (λ (p : Point). unsigned_abs (b.lat -ℤ p.lat) ≤ 30000000) (sym is_a) (subst (λ (q : Point). unsigned_abs (q.lat -ℤ pos near_a.north) ≤ 30000000) (sym is_b) (apart near_a.north near_b.north 30000000 near_a.north_small near_b.north_small)) in
+    subst (λ (p : Point). unsigned_abs (b.lat -ℤ p.lat) ≤ 30000000) (sym is_a) (subst (λ (q : Point). unsigned_abs (q.lat -ℤ pos near_a.north) ≤ 30000000) (sym is_b) (apart near_a.north near_b.north 30000000 near_a.north_small near_b.north_small)) in
     let east : unsigned_abs (b.lon -ℤ a.lon) ≤ 30000000 =
-        subst (λ (p : Point). unsigned_abs (b.lon -ℤ p.lon) ≤ 30000000) (sym is_a) (subst (λ (q : Point). unsigned_abs (q.lon -ℤ pos near_a.east) ≤ 30000000) (sym is_b) (apart near_a.east near_b.east 30000000 near_a.east_small near_b.east_small)) in
+    subst (λ (p : Point). unsigned_abs (b.lon -ℤ p.lon) ≤ 30000000) (sym is_a) (subst (λ (q : Point). unsigned_abs (q.lon -ℤ pos near_a.east) ≤ 30000000) (sym is_b) (apart near_a.east near_b.east 30000000 near_a.east_small near_b.east_small)) in
     diagonal_small _ _ (east_small (b.lon -ℤ a.lon) (middle a.lat b.lat) 30000000 east) north
 
 pub near_are_short : (a b : Point) → IsNear a → IsNear b → line_length (a ∷ b ∷ []) ≤ 4294967295

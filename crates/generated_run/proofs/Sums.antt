@@ -1,8 +1,8 @@
 -- What replies come to, one more at a time.
-use Rattle.std.proofs.Common.{◌≡◌, ◌∙◌, ℕ, ◌+◌, ◌<◌, cond, List, [], ◌∷◌, ◌++◌, length, get_or, map, take, ap, sym, refl, zero-add}
-use Rattle.std.specs.List.{count_by, sum_by}
+use Rattle.std.proofs.Common.{◌≡◌, ◌∙◌, ℕ, ◌+◌, ◌<◌, cond, List, [], ◌∷◌, ◌++◌, length, get_or, take, ap, sym, zero-add}
+use Rattle.std.specs.List.{sum_by}
 use Rattle.std.proofs.lemmas.List.{map-append, take_more}
-use Rattle.std.proofs.lemmas.List.Sums.{sum_by-append, sum_by-cons}
+use Rattle.std.proofs.lemmas.List.Sums.{sum_by-append}
 use Rattle.script_text.specs.declared.reply.Reply.{Reply}
 use Rattle.script_service.specs.declared.actor.Heard.{Heard}
 use Rattle.script_service.specs.Collecting.{replies_heard}

@@ -3,7 +3,6 @@ use Rattle.std.specs.Prelude.{ℕ, ◌+◌, ◌-◌, ◌*◌, ◌/◌, ◌%◌, 
 use Rattle.std.specs.List.{range_with_len}
 use Rattle.gh_base.specs.declared.map.OsmMap.{OsmMap}
 use Rattle.gh_base.specs.declared.map.OsmNode.{OsmNode}
-use Rattle.gh_base.specs.declared.map.OsmTag.{OsmTag}
 use Rattle.gh_base.specs.declared.map.OsmWay.{OsmWay}
 use Rattle.generated_run.specs.Draws.{draw}
 

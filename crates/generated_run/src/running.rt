@@ -22,6 +22,13 @@ use std::alloc::Global;
 use std::thread::Threads;
 use traffic_core::Ground;
 
+/// The one fault of an import that nothing can be refused in.
+fn want_of_memory(_fault: ImportFault) -> NoMemory
+    requires { _fault ≡ ImportFault.NoMemory }
+{
+    NoMemory
+}
+
 /// The roads of the map of a size. Nothing in it can be refused.
 fn roads_of(alloc: Global, size: u32, map: &OsmMap) -> Result<Roads, NoMemory>
     requires two { 2 ≤ size }
@@ -36,8 +43,7 @@ fn roads_of(alloc: Global, size: u32, map: &OsmMap) -> Result<Roads, NoMemory>
 {
     match import(alloc, map) {
         Ok(roads) => Ok(roads),
-        Err(ImportFault::NoMemory) => Err(NoMemory),
-        Err(_) => unreachable!(),
+        Err(fault) => Err(want_of_memory(fault)),
     }
 }
 

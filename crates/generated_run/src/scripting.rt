@@ -20,6 +20,7 @@ const LOWERINGS: u32 = 8;
 
 /// How many routes are asked for, and how many by each of four actors.
 const ROUTES: u32 = 16;
+
 const ROUTES_EACH: u32 = 4;
 
 /// The limit that is set, in milli-km/h.

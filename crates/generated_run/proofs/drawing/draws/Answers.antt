@@ -1,4 +1,4 @@
-use Rattle.std.proofs.Common.{◌≡◌, ◌∙◌, ◌/◌, ap}
+use Rattle.std.proofs.Common.{◌∙◌, ◌/◌, ap}
 use Rattle.generated_run.specs.Draws.{draw}
 use Rattle.generated_run.proofs.Counted.{pushed, state_next}
 use Rattle.generated_run.proofs.drawing.draws.Goals as goal

@@ -1,6 +1,5 @@
 use Rattle.std.proofs.Common.{rules, ◌≡◌, ◌∙◌}
 use Rattle.std.specs.Int.{w64, cast_signed, cast_unsigned}
-use Rattle.std.proofs.lemmas.Int.{to_z-of_z}
 use Rattle.generated_run.specs.Maps.{ref_at}
 use Rattle.generated_run.proofs.Counted.{pushed}
 use Rattle.generated_run.proofs.grid_map.refs_of.Goals as goal
