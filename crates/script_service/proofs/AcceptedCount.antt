@@ -1,5 +1,5 @@
 -- How many replies of actors tell of an entry.
-use Rattle.std.proofs.Common.{◌≡◌, ℕ, suc, ◌+◌, ◌<◌, List, [], ◌∷◌, ◌++◌, length, get_or, take, map, filter, true, false, cond, ap, refl, ◌∙◌, arith, add-one, take-suc}
+use Rattle.std.proofs.Common.{◌≡◌, ℕ, suc, ◌+◌, ◌<◌, List, [], ◌∷◌, ◌++◌, length, get_or, take, map, filter, Bool, true, false, cond, ap, refl, sym, ◌∙◌, arith, add-one, take-suc}
 use Rattle.script_text.specs.declared.script.Line.{Line}
 use Rattle.script_service.specs.declared.actor.Heard.{Heard}
 use Rattle.script_service.specs.Answering.{Answered, is_accepted, accepted}

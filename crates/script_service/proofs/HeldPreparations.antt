@@ -1,5 +1,5 @@
 -- What an actor holds: over a longer journal, and over another one that begins the same.
-use Rattle.std.proofs.Common.{◌≡◌, ℕ, ◌≤◌, List, [], ◌∷◌, length, take, filter, Option, None, Some, All}
+use Rattle.std.proofs.Common.{◌≡◌, ℕ, ◌≤◌, List, [], ◌∷◌, ◌++◌, length, take, drop, filter, sym, ap, refl, ◌∙◌, Option, None, Some, arith, All, take-append-drop, length-take-le}
 use Rattle.std.specs.List.{last_or}
 use Rattle.std.proofs.lemmas.List.{take-append-le}
 use Rattle.std.proofs.lemmas.List.Elements.{All-head, All-tail, All-filter}

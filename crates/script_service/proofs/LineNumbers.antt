@@ -1,6 +1,7 @@
 -- The numbers of an actor's lines grow, phase by phase.
 use Rattle.std.proofs.Common.{◌≡◌, ℕ, zero, suc, ◌+◌, ◌<◌, ◌≤◌, List, [], ◌∷◌, ◌++◌, length, get_or, take, drop, subst, sym, ap, refl, ◌∙◌, arith, eq-eqb, All, AllPairs, length-append, append_assoc, take-append-drop}
 use Rattle.std.proofs.lemmas.List.{get_or_append_left, get_or-append-add, get_or_default, drop_more}
+use Rattle.std.proofs.lemmas.List.Elements.{All-nil}
 use Rattle.script_text.specs.declared.script.Line.{Line}
 use Rattle.script_text.specs.Scripts.{AreNumbered, IsLine, lines_of, turns_of}
 use Rattle.script_service.specs.Actors.{Acting, Awaits, CanBeAsked, Grows, StaysBelow}

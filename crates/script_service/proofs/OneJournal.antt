@@ -3,6 +3,7 @@ use Rattle.std.proofs.Common.{◌≡◌, ℕ, zero, suc, ◌+◌, ◌-◌, ◌<�
 use Rattle.std.proofs.lemmas.Bool.{eqb-true, cases_lt}
 use Rattle.std.proofs.lemmas.List.Elements.{All-filter, filter_passes}
 use Rattle.std.proofs.lemmas.Option.{get_or_from_slice_get}
+use Rattle.gh_base.specs.declared.edges.DirEdge.{DirEdge}
 use Rattle.landmark_prep.specs.Preparations.{Preparation, IsPrepOf}
 use Rattle.landmark_prep.specs.Laws.{PreparationsAreOne}
 use Rattle.traffic_core.specs.declared.entry.Entry.{Entry}
@@ -15,7 +16,7 @@ use Rattle.script_text.specs.declared.script.Script.{Script}
 use Rattle.script_text.specs.declared.script.Command.{Command}
 use Rattle.script_text.specs.declared.script.Command.TheVariants as command
 use Rattle.script_service.specs.Answering.{Answered, joined, own_of, is_accepted}
-use Rattle.script_service.specs.Replying.{IsRightAfter, IsLeft, IsHeldAfter, last_settling, along}
+use Rattle.script_service.specs.Replying.{IsRightAfter, IsLeft, IsHeldAfter, IsHeld, IsEntry, last_settling, along}
 use Rattle.script_service.specs.Fitting.{SeesOwn, SeesInOrder, Begins}
 use Rattle.script_service.specs.Writing.{Fits, lines_text, journal_text}
 use Rattle.script_service.proofs.ListsAndPairs.{pairs_before, pairs_joined, cut_at}

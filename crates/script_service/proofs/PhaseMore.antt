@@ -7,6 +7,7 @@ use Rattle.std.proofs.lemmas.List.Elements.{All-push, All-append, All-nil, Conta
 use Rattle.std.proofs.lemmas.List.Quantifiers.{all_pairs_push}
 use Rattle.traffic_core.specs.declared.entry.Entry.{Entry}
 use Rattle.traffic_core.specs.Lands.{Land}
+use Rattle.script_text.specs.declared.script.Line.{Line}
 use Rattle.script_text.specs.declared.script.Script.{Script}
 use Rattle.traffic_share.specs.Seats.{StartsWith}
 use Rattle.script_service.specs.Answering.{Answered, lines, joined, accepted}

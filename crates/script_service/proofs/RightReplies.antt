@@ -1,5 +1,5 @@
 -- Replies that are right stay right over a longer journal, fit together, and tell of an entry where they are accepted.
-use Rattle.std.proofs.Common.{◌≡◌, ℕ, ◌-◌, ◌≤◌, Bool, true, false, List, [], ◌∷◌, ◌++◌, length, sym, ap, subst, refl, ◌∙◌, Option, None, Some, arith, append_assoc, All, eqb}
+use Rattle.std.proofs.Common.{◌≡◌, ℕ, ◌-◌, ◌≤◌, Bool, true, false, List, [], ◌∷◌, ◌++◌, length, take, sym, ap, subst, refl, ◌∙◌, Option, None, Some, arith, append_assoc, All, slice_get, eqb}
 use Rattle.std.proofs.lemmas.List.{append-nil}
 use Rattle.std.proofs.lemmas.List.Elements.{All-head, All-tail, All-nil, All-cons, All-push, All-filter, filter-append}
 use Rattle.gh_base.specs.declared.edges.DirEdge.{DirEdge}

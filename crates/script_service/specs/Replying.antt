@@ -1,6 +1,7 @@
 -- Which replies to a command are right, after as many entries of the journal as the reply says, and behind what its actor was answered before.
-use Rattle.std.specs.Prelude.{◌≡◌, ℕ, ◌-◌, ◌<◌, ◌≤◌, ◌==◌, Bool, false, List, length, filter, take, slice_get, Option, Some, None}
+use Rattle.std.specs.Prelude.{◌≡◌, ℕ, ◌-◌, ◌<◌, ◌≤◌, ◌==◌, Bool, true, false, List, length, filter, take, slice_get, Option, Some, None}
 use Rattle.std.specs.List.{last_or}
+use Rattle.gh_base.specs.declared.edges.EdgeId.{EdgeId}
 use Rattle.gh_base.specs.declared.edges.DirEdge.{DirEdge}
 use Rattle.gh_base.specs.declared.query.Place.{Place}
 use Rattle.gh_base.specs.declared.query.RouteAnswer.{RouteAnswer}

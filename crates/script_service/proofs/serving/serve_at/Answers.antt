@@ -1,4 +1,4 @@
-use Rattle.std.proofs.Common.{◌∙◌, ap}
+use Rattle.std.proofs.Common.{◌≡◌, ◌∙◌, ap}
 use Rattle.traffic_core.specs.Lands.{Land}
 use Rattle.script_service.specs.Writing.{journal_text}
 use Rattle.script_service.proofs.PhaseServed.{journal_front, nothing_begun, whole_written}
