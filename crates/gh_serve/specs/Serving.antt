@@ -6,7 +6,6 @@ use Rattle.std.specs.Io.KnownBytes.{Appends, Keeps}
 use Rattle.gh_base.specs.Causes.{AppendsFront}
 use Rattle.gh_base.specs.declared.kinds.Form.{Form}
 use Rattle.gh_base.specs.declared.map.OsmMap.{OsmMap}
-use Rattle.base_graph.specs.Graphs.{IsGraph}
 use Rattle.map_import.specs.Roads.{place_in, points_along}
 use Rattle.map_import.specs.Refusals.{roads}
 use Rattle.map_import.specs.Building.{laid_as}
@@ -15,17 +14,12 @@ use Rattle.script_text.specs.declared.script.ScriptRead.{ScriptRead}
 use Rattle.script_text.specs.Grammar.{script_of}
 use Rattle.traffic_core.specs.Lands.{Land, AreAsLong}
 use Rattle.script_service.specs.Writing.{BeginsText, Fits, BeginsOrFits}
+use Rattle.generated_run.specs.Generating.{AreRoadsOf}
 use Rattle.map_import.specs.declared.roads.Roads.{Roads}
 use Rattle.gh_serve.specs.declared.status.MapFault.TheVariants as fault
 use Rattle.gh_serve.specs.declared.status.Status.{Status}
 use Rattle.gh_serve.specs.declared.status.Status.TheVariants as status
 use Rattle.gh_serve.specs.Statuses.{ReadsAs}
-
--- the roads of a map: its towers and edges, each tower at the place of its node
-pub record AreRoadsOf (map : OsmMap) (land : Land) : Type 0 where
-  pub graph : IsGraph land.graph
-  pub laid : roads map ≡ Ok (laid_as land.ids land.graph)
-  pub places : land.graph.places ≡ points_along (place_in map.nodes) land.ids
 
 -- roads as import gives them are those of a map
 pub record AreRoadsIn (map : OsmMap) (found : Roads) : Type 0 where

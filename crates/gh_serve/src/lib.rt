@@ -7,6 +7,7 @@
 
 mod commands;
 mod conversion;
+mod generating;
 mod labels;
 mod maps;
 mod scripts;
@@ -16,6 +17,7 @@ mod texts;
 mod top;
 
 pub use conversion::convert;
+pub use generating::generate;
 pub use serving::serve_script;
 pub use status::{MapFault, Quantity, Status, Which};
 pub use texts::fault_text;

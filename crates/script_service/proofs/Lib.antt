@@ -25,3 +25,5 @@ pub mod PhaseLines
 pub mod SeatedActors
 pub mod JournalLines
 pub mod SentActors
+pub mod PhaseReady
+pub mod ToldReplies

@@ -35,11 +35,11 @@ underway_none land script journal actors old none knows = record {
 }
 
 -- of a phase that was answered
-record IsServed (land : Land) (script : Script) (phases : List (List Answered)) (part : List Answered) (i : ℕ) (ys : List Entry) (after : List Acting) : Type 0 where
-  begins : Begins land script (phases ++ part ∷ []) ys (i + 1)
-  knows : Know land ys (joined phases ++ part) after
+pub record IsServed (land : Land) (script : Script) (phases : List (List Answered)) (part : List Answered) (i : ℕ) (ys : List Entry) (after : List Acting) : Type 0 where
+  pub begins : Begins land script (phases ++ part ∷ []) ys (i + 1)
+  pub knows : Know land ys (joined phases ++ part) after
 
-is_served : (land : Land) (script : Script) (phase : List Line) (part : List Answered) (i capacity : ℕ) (xs ys : List Entry) (before after : List Acting) (old mid : Option (List ℕ)) →
+pub is_served : (land : Land) (script : Script) (phase : List Line) (part : List Answered) (i capacity : ℕ) (xs ys : List Entry) (before after : List Acting) (old mid : Option (List ℕ)) →
     (underway : IsUnderway land script xs before i old mid) → capacity ≡ script.capacity → length before ≡ length script.actors → i < length script.phases → get_or script.phases i [] ≡ phase →
     lines part ≡ by_actor (length before) phase → Continues land capacity xs before ys after part → length ys ≤ capacity → IsServed land script underway.phases part i ys after
 is_served land script phase part i capacity xs ys before after old mid underway cells count below is order serves room =

@@ -7,4 +7,5 @@ pub mod Laws
 pub mod Telling
 pub mod Actors
 pub mod Underway
+pub mod Collecting
 pub mod SeatReplies

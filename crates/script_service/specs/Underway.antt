@@ -1,13 +1,16 @@
 -- A script that is underway: so many phases were answered and written.
-use Rattle.std.specs.Prelude.{ℕ, List, Option}
+use Rattle.std.specs.Prelude.{◌≡◌, ◌≤◌, ℕ, List, [], Option, All, drop, length, slice_index_or}
 use Rattle.std.specs.Io.KnownBytes.{Appends}
 use Rattle.traffic_core.specs.declared.entry.Entry.{Entry}
 use Rattle.traffic_core.specs.Lands.{Land}
+use Rattle.script_text.specs.declared.script.Line.{Line}
 use Rattle.script_text.specs.declared.script.Script.{Script}
-use Rattle.script_service.specs.Answering.{Answered, joined}
-use Rattle.script_service.specs.Fitting.{Begins}
+use Rattle.script_text.specs.Scripts.{lines_of}
+use Rattle.traffic_share.specs.Seats.{Place}
+use Rattle.script_service.specs.Answering.{Answered, joined, lines}
+use Rattle.script_service.specs.Fitting.{Begins, by_actor}
 use Rattle.script_service.specs.Writing.{lines_text}
-use Rattle.script_service.specs.Actors.{Acting, Know}
+use Rattle.script_service.specs.Actors.{Acting, AreSeated, Awaits, Continues, Know, parts_in}
 
 -- with this journal, the bytes that a sink holds went from old to new
 pub record HasServed (land : Land) (script : Script) (journal : List Entry) (count : ℕ) (old new : Option (List ℕ)) : Type 0 where
@@ -21,3 +24,20 @@ pub record IsUnderway (land : Land) (script : Script) (journal : List Entry) (ac
   pub begins : Begins land script phases journal count
   pub knows : Know land journal (joined phases) actors
   pub written : Appends old new (lines_text script.actors (joined phases))
+
+-- there is an actor for each name, all sit at the service's log, and none was given a number as great as those of the lines from this phase on
+pub record AreReady (script : Script) (count : ℕ) (service : Place) (actors : List Acting) : Type 0 where
+  pub cells : length service.cells ≡ script.capacity
+  pub len : length actors ≡ length script.actors
+  pub seated : AreSeated service actors
+  pub awaits : All (Awaits (lines_of (drop count script.phases))) actors
+
+-- the phase of a number
+abbrev pub phase_of : Script → ℕ → List Line
+phase_of script count = slice_index_or script.phases count []
+
+-- the phase of this number was answered
+pub record HasPhase (land : Land) (script : Script) (count : ℕ) (xs ys : List Entry) (before after : List Acting) : Type 0 where
+  pub order : lines (parts_in (phase_of script count) after) ≡ by_actor (length before) (phase_of script count)
+  pub serves : Continues land script.capacity xs before ys after (parts_in (phase_of script count) after)
+  pub room : length ys ≤ script.capacity

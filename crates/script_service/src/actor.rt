@@ -1,9 +1,10 @@
 //! An actor: its seat, what it knows, and what it was told in a phase.
-ghost use Rattle.std.specs.Prelude.{◌≡◌, [], List, length, IfOk, OnErr, All, AllPairs, false, ◌<◌, ◌≤◌};
+ghost use Rattle.std.specs.Prelude.{◌≡◌, ◌++◌, [], List, length, IfOk, OnOk, OnErr, All, AllPairs, false, ◌<◌, ◌≤◌};
 ghost use Rattle.script_text.specs.Scripts.{IsCommand};
 ghost use Rattle.script_service.specs.Answering.{Answered, is_accepted, lines};
 ghost use Rattle.script_service.specs.Fitting.{lines_of};
 ghost use Rattle.traffic_share.specs.Seats.{HasSameSeat, StartsWith};
+ghost use Rattle.script_service.specs.Collecting.{HasHandedOver};
 ghost use Rattle.script_service.specs.Actors.{Acts, Awaits, CanBeAsked, HasAnswered, HasRun, IsPastOf, IsTaught, StaysBelow, accepted_of, line_at, part_in};
 
 use crate::answering::answer;
@@ -75,6 +76,15 @@ impl<'l, 'g, J: Naming> Actor<'l, 'g, J> {
         ensures { result.now ≡ self.now.part }
     {
         &self.part
+    }
+
+    /// Moves what it was told in this phase behind what was told before. After `NoMemory` both are as before.
+    pub fn hand_over(&mut self, heard: &mut Vec<Heard>) -> Result<(), NoMemory>
+        ensures same { HasHandedOver self.old self.new }
+        ensures heard { OnOk result (heard.new.items ≡ heard.old.items ++ self.old.part) }
+    {
+        heard.append(&mut self.part)?;
+        Ok(())
     }
 
     /// How many replies of this phase tell of an entry of its own.

@@ -7,6 +7,7 @@
 
 mod actor;
 mod answering;
+mod collecting;
 mod crossing;
 mod journal;
 mod laws;
@@ -16,5 +17,8 @@ mod serving;
 mod threads;
 mod told;
 
+pub use actor::Heard;
+pub use collecting::{Answers, answer_script};
 pub use laws::replies_tell_the_journal;
 pub use serving::serve_script;
+pub use told::Told;

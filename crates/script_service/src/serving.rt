@@ -1,12 +1,12 @@
 //! The service.
-ghost use Rattle.std.specs.Prelude.{◌≡◌, ◌<◌, ◌≤◌, ◌++◌, ℕ, List, [], All, IfOk, OnOk, IsErrOf, length, map};
+ghost use Rattle.std.specs.Prelude.{◌≡◌, ◌<◌, ◌≤◌, ◌+◌, ◌++◌, ℕ, List, [], All, IfOk, OnOk, IsErrOf, length, map};
 ghost use Rattle.std.specs.Io.KnownBytes.{Appends};
 ghost use Rattle.gh_base.specs.Causes.{Rose, AppendsFront};
 ghost use Rattle.script_text.specs.declared.script.Line.{Line};
-ghost use Rattle.script_text.specs.Scripts.{IsScript, lines_of};
+ghost use Rattle.script_text.specs.Scripts.{IsScript};
 ghost use Rattle.script_service.specs.Writing.{BeginsText, Fits, BeginsOrFits, lines_text};
 ghost use Rattle.script_service.specs.Actors.{AreSeated, Know, heard_in, parts_in};
-ghost use Rattle.script_service.specs.Underway.{HasServed};
+ghost use Rattle.script_service.specs.Underway.{AreReady, HasPhase, HasServed, phase_of};
 
 use crate::actor::{Actor, Heard};
 use crate::journal::journal_text;
@@ -41,8 +41,8 @@ fn put_part(
     Ok(())
 }
 
-/// The text of a phase: what its actors were told, actor by actor.
-fn phase_text<J: Naming>(
+/// What actors were told in a phase, one behind another.
+fn parts_text<J: Naming>(
     alloc: Global,
     names: &Names,
     phase: &[Line],
@@ -59,6 +59,47 @@ fn phase_text<J: Naming>(
     Ok(text)
 }
 
+/// The text of a phase: what its actors were told, actor by actor.
+fn phase_text<J: Naming>(
+    alloc: Global,
+    script: &Script,
+    place: usize,
+    actors: &[Actor<'_, '_, J>],
+) -> Result<Text, NoMemory>
+    requires script { IsScript J.land.profiles script.now }
+    requires there { place < length script.now.phases }
+    requires heard { All (λ a. All (λ heard. heard.place < length (phase_of script.now place)) a.part) actors.now }
+    ensures { IfOk result (λ text. text ≡ lines_text script.now.actors (parts_in (phase_of script.now place) actors.now)) }
+{
+    let phase = script.phases.get(place).as_slice();
+    parts_text(alloc, &script.actors, phase, actors)
+}
+
+/// The phase of a number: all actors run at once.
+pub(crate) fn answer_phase<'l, 'g, J: Naming, R: Threads + Sync, G: Gate>(
+    rt: &R,
+    alloc: Global,
+    service: &mut Seat<'l, 'g, J>,
+    actors: &mut [Actor<'l, 'g, J>],
+    script: &Script,
+    place: usize,
+    gate: &G,
+) -> Result<(), NoMemory>
+    requires script { IsScript J.land.profiles script.now }
+    requires there { place < length script.now.phases }
+    requires ready { AreReady script.now place service.old actors.old }
+    ensures ready { IfOk result (λ _. AreReady script.now (place + 1) service.new actors.new) }
+    ensures heard { IfOk result (λ _. All (λ a.
+        All (λ heard. heard.place < length (phase_of script.now place)) a.part) actors.new) }
+    ensures phase { IfOk result (λ _.
+        HasPhase J.land script.now place service.old.entries service.new.entries actors.old actors.new) }
+{
+    let names = script.actors.len() as u32;
+    let phase = script.phases.get(place).as_slice();
+    run_phase(rt, alloc, service, actors, phase, gate, names)?;
+    Ok(())
+}
+
 /// Runs a script, phase by phase, and writes the replies of each as it ends.
 fn serve_phases<'l, 'g, J: Naming, R: Threads + Sync, K: Sink, G: Gate>(
     rt: &R,
@@ -70,12 +111,9 @@ fn serve_phases<'l, 'g, J: Naming, R: Threads + Sync, K: Sink, G: Gate>(
     gate: &G,
 ) -> Result<(), GiveFault>
     requires script { IsScript J.land.profiles script.now }
-    requires cells { length service.old.cells ≡ script.now.capacity }
-    requires count { length actors.old ≡ length script.now.actors }
-    requires seated { AreSeated service.old actors.old }
+    requires ready { AreReady script.now 0 service.old actors.old }
     requires nothing { service.old.entries ≡ [] }
     requires none { Know J.land [] [] actors.old }
-    requires first { All (λ a. a.seat.last ≡ 0) actors.old }
     ensures done { OnOk result (HasServed J.land script.now service.new.entries (length script.now.phases) (K.held out.old) (K.held out.new)) }
     ensures front { IsErrOf result GiveFault.WriteFault →
         (text : List ℕ) × BeginsOrFits J.land script.now text × AppendsFront (K.held out.old) (K.held out.new) text }
@@ -84,18 +122,16 @@ fn serve_phases<'l, 'g, J: Naming, R: Threads + Sync, K: Sink, G: Gate>(
     ensures cause { IsErrOf result GiveFault.WriteFault → Rose (K.faults out.old) (K.faults out.new) }
     ensures later { OnOk result (K.faults out.old ≤ K.faults out.new) }
 {
-    let names = script.actors.len() as u32;
-    for phase in script.phases.as_slice() {
-        let phase = phase.as_slice();
-        run_phase(rt, alloc, service, actors, phase, gate, names)?;
-        let text = phase_text(alloc, &script.actors, phase, actors)?;
+    for place in 0..script.phases.len() {
+        answer_phase(rt, alloc, service, actors, script, place, gate)?;
+        let text = phase_text(alloc, script, place, actors)?;
         give_all(out, text.as_bytes())?;
     }
     Ok(())
 }
 
 /// An actor for each name, with a seat at the log.
-fn seat_actors<'l, 'g, J: Naming>(
+pub(crate) fn seat_actors<'l, 'g, J: Naming>(
     alloc: Global,
     log: &'l Log<J>,
     ground: &'g Ground,
