@@ -4,10 +4,10 @@
 
 mod outside;
 
-use gh_base::FreeGate;
+use gh_base::{FreeGate, NoMemory};
 use gh_serve::{Status, fault_text, run};
 use outside::{DiskFiles, StdinSource, StdoutSink};
-use std::alloc::Global;
+use std::alloc::{AllocError, Global};
 use std::process::ExitCode;
 use std::rt::Env;
 use std::{env, io};
@@ -41,11 +41,34 @@ const fn number_of(status: &Status) -> u8 {
     }
 }
 
+/// Why there is no run where the program's own words can't be read.
+fn status_without_words(error: &io::Error) -> Status {
+    match error.kind() {
+        io::ErrorKind::OutOfMemory => Status::NoMemory,
+        _ => Status::Usage,
+    }
+}
+
+/// The text on one line: a control character, which a name out of a map may hold, becomes a `?`.
+fn on_one_line(alloc: Global, text: &str) -> Result<String, AllocError> {
+    let mut line = String::new(alloc);
+    for c in text.chars() {
+        line.push(if c.is_control() { '?' } else { c })?;
+    }
+    Ok(line)
+}
+
+/// The line that says why the run ended so.
+fn line_of(alloc: Global, status: &Status) -> Result<String, NoMemory> {
+    let text = fault_text(alloc, status)?;
+    Ok(on_one_line(alloc, text.as_str())?)
+}
+
 /// Says on standard error why the run ended so. Nothing can be done where that fails.
 fn report(alloc: Global, rt: &impl Eprint, status: &Status) {
-    let _ = match fault_text(alloc, status) {
-        Ok(text) => rt.eprintln(text.as_str()),
-        Err(_) => rt.eprintln("gh: no memory"),
+    let _ = match line_of(alloc, status) {
+        Ok(line) => rt.eprintln(line.as_str()),
+        Err(NoMemory) => rt.eprintln("gh: no memory"),
     };
 }
 
@@ -64,7 +87,7 @@ fn main(rt: HostRuntime) -> ExitCode {
             &mut out,
             &FreeGate,
         ),
-        Err(_) => Status::Usage,
+        Err(error) => status_without_words(&error),
     };
     if let Status::Done = status {
         return ExitCode::from(0);
