@@ -1,0 +1,2 @@
+pub mod LastTwo
+pub mod SentSeats
