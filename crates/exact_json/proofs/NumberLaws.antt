@@ -8,7 +8,8 @@ use Rattle.std.proofs.lemmas.Bool.Decides.{nat_tests}
 use Rattle.std.proofs.lemmas.Fmt.{decimal_by_steps}
 use Rattle.exact_json.specs.Parsing.{sees, after}
 use Rattle.exact_json.specs.Decimals.{DecimalValue, IsExact, spelled, below, exponent_of, decimal_of}
-use Rattle.exact_json.specs.Numbers.{is_digit, digits, whole, fraction, letter, exponent, number}
+use Rattle.std.specs.Char.{is_ascii_digit}
+use Rattle.exact_json.specs.Numbers.{digits, whole, fraction, letter, exponent, number}
 use Rattle.exact_json.specs.Printed.{fixed, magnitude, decimal_text}
 use Rattle.exact_json.proofs.Runs.{AllPass, EndsRun, run_len, pass_append}
 use Rattle.exact_json.proofs.Limits.{ten_pow, kept}
@@ -18,17 +19,17 @@ abbrev pub Ends : List ℕ → Type 0
 Ends [] = Unit {0}
 Ends (b ∷ bytes) = (b ≡ 44) ⊎ ((b ≡ 93) ⊎ (b ≡ 125))
 
-digits_over : (b : ℕ) (u j : List ℕ) → AllPass is_digit (b ∷ u) → EndsRun is_digit j → digits (b ∷ (u ++ j)) ≡ Ok (b ∷ u, j)
+digits_over : (b : ℕ) (u j : List ℕ) → AllPass is_ascii_digit (b ∷ u) → EndsRun is_ascii_digit j → digits (b ∷ (u ++ j)) ≡ Ok (b ∷ u, j)
 unfolding digits
 digits_over b u j pass ends =
     let some : nat_lt 0 (length (b ∷ u)) ≡ true = grind (arith, nat_tests) in
-    rw (run_len is_digit (b ∷ u) j pass ends, take-append_seam (b ∷ u) j, drop-append_seam (b ∷ u) j, some) refl
+    rw (run_len is_ascii_digit (b ∷ u) j pass ends, take-append_seam (b ∷ u) j, drop-append_seam (b ∷ u) j, some) refl
 
 spelled_append : (m : ℕ) (ds : List ℕ) (b : ℕ) → spelled m (ds ++ b ∷ []) ≡ 10 * spelled m ds + (b - 48)
 spelled_append m [] b = refl
 spelled_append m (d ∷ ds) b = spelled_append (10 * m + (d - 48)) ds b
 
-digit_is : (d : ℕ) → d < 10 → is_digit (48 + d) ≡ true
+digit_is : (d : ℕ) → d < 10 → is_ascii_digit (48 + d) ≡ true
 digit_is d small = grind (arith, nat_tests)
 
 -- a zero alone, or a digit that isn't zero in front
@@ -37,7 +38,7 @@ Front n ds = ((n ≡ 0) × (ds ≡ 48 ∷ [])) ⊎ ((b : ℕ) × (bs : List ℕ)
 
 -- the digits of a number
 record Spells (n : ℕ) (ds : List ℕ) : Type 0 where
-  pass : AllPass is_digit ds
+  pass : AllPass is_ascii_digit ds
   value : spelled 0 ds ≡ n
   front : Front n ds
 
@@ -50,7 +51,7 @@ one_digit n small = record { pass = (digit_is n small, tt); value = omega arith;
 
 more_digits : (n : ℕ) (ds : List ℕ) → 10 ≤ n → Spells (n / 10) ds → Spells n (ds ++ (48 + n % 10) ∷ [])
 more_digits n ds large s = record {
-  pass = pass_append is_digit ds ((48 + n % 10) ∷ []) s.pass (digit_is (n % 10) (omega arith), tt);
+  pass = pass_append is_ascii_digit ds ((48 + n % 10) ∷ []) s.pass (digit_is (n % 10) (omega arith), tt);
   value = let v = s.value in let e : 10 * (n / 10) + (48 + n % 10 - 48) ≡ n = omega arith in spelled_append 0 ds (48 + n % 10) ∙ rw v e;
   front = by s.front;
 }
@@ -62,19 +63,19 @@ more_digits n ds large s = record {
 decimal_spells : (n : ℕ) → n < 2 ^ 64 → Spells n (decimal n)
 decimal_spells n small = decimal_by_steps (λ m ds. Spells m ds) one_digit more_digits n small
 
-whole_front : (n : ℕ) (ds j : List ℕ) → Front n ds → AllPass is_digit ds → EndsRun is_digit j → whole (ds ++ j) ≡ Ok (ds, j)
+whole_front : (n : ℕ) (ds j : List ℕ) → Front n ds → AllPass is_ascii_digit ds → EndsRun is_ascii_digit j → whole (ds ++ j) ≡ Ok (ds, j)
 unfolding whole
 whole_front n ds j (inl h) pass ends = rw h.1 refl
 whole_front n ds j (inr h) pass ends =
     let other : eqb h.0 48 ≡ false = let l = h.3 in grind (arith, nat_tests) in
-    let all : AllPass is_digit (h.0 ∷ h.1) = subst (λ (t : List ℕ). AllPass is_digit t) h.2 pass in
+    let all : AllPass is_ascii_digit (h.0 ∷ h.1) = subst (λ (t : List ℕ). AllPass is_ascii_digit t) h.2 pass in
     rw (h.2, other) (digits_over h.0 h.1 j all ends)
 
-whole_again : (n : ℕ) (ds j : List ℕ) → Spells n ds → EndsRun is_digit j → whole (ds ++ j) ≡ Ok (ds, j)
+whole_again : (n : ℕ) (ds j : List ℕ) → Spells n ds → EndsRun is_ascii_digit j → whole (ds ++ j) ≡ Ok (ds, j)
 whole_again n ds j s ends = whole_front n ds j s.front s.pass ends
 
 -- the digits behind the point
-fixed_pass : (p n : ℕ) → AllPass is_digit (fixed p n)
+fixed_pass : (p n : ℕ) → AllPass is_ascii_digit (fixed p n)
 fixed_pass zero n = tt
 fixed_pass (suc p) n = (digit_is (n / 10 ^ p % 10) (omega arith), fixed_pass p n)
 
@@ -95,7 +96,7 @@ fixed_spells (suc p) m n =
     let digit : 48 + n / 10 ^ p % 10 - 48 ≡ n / 10 ^ p % 10 = omega arith in
     ap (λ (k : ℕ). spelled (10 * m + k) (fixed p n)) digit ∙ fixed_spells p (10 * m + q) n ∙ rw (low, power) (spread m q (10 ^ p) (n % 10 ^ p))
 
-fraction_again : (p n : ℕ) (j : List ℕ) → EndsRun is_digit j → fraction (46 ∷ (fixed (suc p) n ++ j)) ≡ Ok (fixed (suc p) n, j)
+fraction_again : (p n : ℕ) (j : List ℕ) → EndsRun is_ascii_digit j → fraction (46 ∷ (fixed (suc p) n ++ j)) ≡ Ok (fixed (suc p) n, j)
 unfolding fraction
 fraction_again p n j ends = digits_over (48 + n / 10 ^ p % 10) (fixed p n) j (fixed_pass (suc p) n) ends
 
@@ -114,7 +115,7 @@ no_exponent (b ∷ j) (inl e) = rw e refl
 no_exponent (b ∷ j) (inr (inl e)) = rw e refl
 no_exponent (b ∷ j) (inr (inr e)) = rw e refl
 
-no_digit : (j : List ℕ) → Ends j → EndsRun is_digit j
+no_digit : (j : List ℕ) → Ends j → EndsRun is_ascii_digit j
 no_digit [] ends = tt
 no_digit (b ∷ j) (inl e) = rw e refl
 no_digit (b ∷ j) (inr (inl e)) = rw e refl

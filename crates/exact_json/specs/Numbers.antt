@@ -1,6 +1,7 @@
 -- Numbers: a sign, digits, a fraction and an exponent (RFC 8259, section 6).
-use Rattle.std.specs.Prelude.{◌≡◌, ℕ, Bool, true, false, ◌&&◌, ◌||◌, List, [], ◌∷◌, length, take, drop, Option, Some, None, Result, Ok, Err, ◌==◌, nat_lt, nat_le, if◌then◌else◌}
+use Rattle.std.specs.Prelude.{◌≡◌, ℕ, Bool, true, false, ◌||◌, List, [], ◌∷◌, length, take, drop, Option, Some, None, Result, Ok, Err, ◌==◌, nat_lt, if◌then◌else◌}
 use Rattle.std.specs.List.{prefix_len}
+use Rattle.std.specs.Char.{is_ascii_digit}
 use denote.Ref.{Bor}
 use Rattle.gh_base.specs.declared.kinds.JsonKind.{JsonKind}
 use Rattle.gh_base.specs.declared.kinds.JsonKind.TheVariants.{End, Byte, TooLong}
@@ -9,18 +10,14 @@ use Rattle.exact_json.specs.Parsing.{Outcome, Stops, ◌>>=◌, ◌>>◌, pure, 
 use Rattle.exact_json.specs.Tokens.{Reader, take_byte}
 use Rattle.exact_json.specs.Decimals.{DecimalValue, decimal_of}
 
--- RFC 8259, 6, DIGIT: 0 to 9
-abbrev pub is_digit : ℕ → Bool
-is_digit b = nat_le 48 b && nat_le b 57
-
 -- RFC 8259, 6: a minus or a digit
 abbrev pub begins_number : ℕ → Bool
-begins_number b = b == 45 || is_digit b
+begins_number b = b == 45 || is_ascii_digit b
 
 -- RFC 8259, 6: one digit or more
 unfoldable pub digits : Reader (List ℕ)
 digits i =
-    let n = prefix_len is_digit i in
+    let n = prefix_len is_ascii_digit i in
     if nat_lt 0 n then Ok (take n i, drop n i) else Err (length i, if nat_lt 0 (length i) then Byte else End)
 
 -- RFC 8259, 6, int, by its first byte

@@ -1,6 +1,7 @@
 //! Numbers.
 ghost use Rattle.std.specs.Prelude.{◌≡◌, ◌<◌, ◌≤◌, ◌+◌, ◌*◌, ◌-◌, ◌^◌, length, IfSome, Ok};
 ghost use Rattle.std.specs.List.{prefix_len};
+ghost use Rattle.std.specs.Char.{is_ascii_digit};
 ghost use Rattle.exact_json.specs.Tokens.{ReadsPart};
 ghost use Rattle.exact_json.specs.Numbers.{ExponentReads};
 ghost use Rattle.exact_json.specs.Parsing.{Reads};
@@ -22,25 +23,19 @@ const MOST_PLACES: usize = 18;
 /// The most digits of an exponent.
 const MOST_EXPONENT_DIGITS: usize = 4;
 
-fn is_digit(b: u8) -> bool
-    ensures { result ≡ spec.is_digit b }
-{
-    b >= b'0' && b <= b'9'
-}
-
 pub(crate) fn begins_number(b: u8) -> bool
     ensures { result ≡ spec.begins_number b }
 {
-    b == b'-' || is_digit(b)
+    b == b'-' || b.is_ascii_digit()
 }
 
 fn digits_len(bytes: &[u8]) -> usize
-    ensures value { result ≡ prefix_len spec.is_digit bytes.now }
+    ensures value { result ≡ prefix_len is_ascii_digit bytes.now }
     ensures within { result ≤ length bytes.now }
 {
     let mut n = 0;
     for b in bytes {
-        if !is_digit(*b) {
+        if !b.is_ascii_digit() {
             return n;
         }
         n += 1;

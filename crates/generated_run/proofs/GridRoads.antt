@@ -7,7 +7,8 @@ use Rattle.std.proofs.lemmas.List.FromFn.{length-map-range_with_len}
 use Rattle.std.proofs.lemmas.Nat.{mul-le, div_below, mod_below}
 use Rattle.gh_base.specs.declared.map.Point.{Point}
 use Rattle.map_import.specs.Refusals.{Laid, first_missing, lay, lay_all, missing_of, nothing, roads}
-use Rattle.map_import.specs.Roads.{Piece, UsedWay, cut, cut_from, first_of, is_tower, last_of, line_length, edge_of, origin, piece_of, pieces_of, pieces_of_way, place_at, place_in, points_along, with_tower, with_towers, is_numbered}
+use Rattle.geo_math.specs.Lengths.{line_length}
+use Rattle.map_import.specs.Roads.{Piece, UsedWay, cut, cut_from, first_of, is_tower, last_of, edge_of, origin, piece_of, pieces_of, pieces_of_way, place_at, place_in, points_along, with_tower, with_towers, is_numbered}
 use Rattle.generated_run.specs.Maps.{id_at, map_of, node_at, ref_at}
 use Rattle.generated_run.proofs.GridNodes.{node_there, nodes_once}
 use Rattle.generated_run.proofs.GridWays.{node_is_tower, used_at, used_refs, ways_used}

@@ -1,5 +1,4 @@
 pub mod Counted
-pub mod DefaultProfile
 pub mod GeneratedScript
 pub mod GridNodes
 pub mod GridWays

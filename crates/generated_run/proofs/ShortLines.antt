@@ -5,9 +5,8 @@ use Rattle.std.specs.Int.RustNames.{unsigned_abs}
 use Rattle.std.proofs.lemmas.Bool.{cases_lt}
 use Rattle.std.proofs.lemmas.Nat.{mul-le, div_below}
 use Rattle.gh_base.specs.declared.map.Point.{Point}
-use Rattle.geo_math.specs.Lengths.{diagonal, middle, root, scaled, scaled_size, segment_length}
+use Rattle.geo_math.specs.Lengths.{diagonal, middle, root, scaled, scaled_size, segment_length, line_length}
 use Rattle.geo_math.proofs.Squares.{root_is}
-use Rattle.map_import.specs.Roads.{line_length}
 
 -- at most 3 degrees north and 3 degrees east
 pub record IsNear (point : Point) : Type 0 where

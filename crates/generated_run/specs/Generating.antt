@@ -1,24 +1,13 @@
 -- What is written of a size: the summary of a text that fits the size's script over the roads of the size's map.
-use Rattle.std.specs.Prelude.{◌≡◌, ℕ, List, length, Option, Ok}
+use Rattle.std.specs.Prelude.{◌≡◌, ℕ, List, length, Option}
 use Rattle.std.specs.Io.KnownBytes.{Appends}
 use Rattle.gh_base.specs.Causes.{AppendsFront}
-use Rattle.gh_base.specs.declared.map.OsmMap.{OsmMap}
-use Rattle.base_graph.specs.Graphs.{IsGraph}
-use Rattle.map_import.specs.Roads.{place_in, points_along}
-use Rattle.map_import.specs.Refusals.{roads}
-use Rattle.map_import.specs.Building.{laid_as}
-use Rattle.traffic_core.specs.Lands.{Land}
+use Rattle.traffic_core.specs.Lands.{Land, AreRoadsOf}
 use Rattle.script_service.specs.Writing.{Fits}
 use Rattle.generated_run.specs.Maps.{map_of}
 use Rattle.generated_run.specs.Scripts.{profiles, script_of}
 use Rattle.generated_run.specs.Summaries.{summary_of, summary_text}
 use Rattle.generated_run.specs.declared.summing.Summary.{Summary}
-
--- the roads of a map: its towers and edges, each tower at the place of its node
-pub record AreRoadsOf (map : OsmMap) (land : Land) : Type 0 where
-  pub graph : IsGraph land.graph
-  pub laid : roads map ≡ Ok (laid_as land.ids land.graph)
-  pub places : land.graph.places ≡ points_along (place_in map.nodes) land.ids
 
 -- the roads of a size, for cars
 pub record AreRoadsOfSize (size : ℕ) (land : Land) : Type 0 where

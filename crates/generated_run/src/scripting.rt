@@ -6,11 +6,10 @@ ghost use Rattle.generated_run.specs.Draws.{draw};
 ghost use Rattle.generated_run.specs.Scripts as spec;
 
 use crate::grid_map::text;
-use gh_base::{NoMemory, Place, Sequence, Vehicle};
-use model_eval::CustomModel;
+use gh_base::{NoMemory, Place};
 use script_text::{Command, Line, Names, Phase, Phases, Script};
 use std::alloc::Global;
-use weighting::{Profile, Profiles};
+use weighting::{Profiles, car_profile};
 
 /// The draws of a script: one for each lowering, and two for each route.
 pub(crate) const SCRIPT_DRAWS: u32 = 40;
@@ -30,22 +29,13 @@ const LOW_LIMIT: u32 = 10_000;
 const CAPACITY: u32 = 9;
 
 /// The profile of cars alone, as where no line declares one.
-#[tactic(auto, using(crate::proofs::DefaultProfile::default_profile))]
+#[tactic(auto, using(script_text::proofs::Models::default_profile))]
 pub(crate) fn profiles(alloc: Global) -> Result<Profiles, NoMemory>
     ensures profiles { IfOk result (λ all. all ≡ spec.profiles) }
     ensures sound { IfOk result AreProfiles }
 {
     let mut all = Profiles::new(alloc);
-    all.push(Profile {
-        name: text(alloc, "car")?,
-        vehicle: Vehicle::Car,
-        model: CustomModel {
-            speed: Sequence::new(alloc),
-            priority: Sequence::new(alloc),
-            distance_influence: None,
-            areas: Sequence::new(alloc),
-        },
-    })?;
+    all.push(car_profile(alloc)?)?;
     Ok(all)
 }
 

@@ -54,3 +54,22 @@ impl From<Failed> for GiveFault {
         GiveFault::WriteFault
     }
 }
+
+/// Why a part of a text is not read.
+#[derive(Clone, Copy, Debug, PartialEq, Eq)]
+pub enum PartFault<K> {
+    NoMemory,
+    /// What is wrong with it.
+    Is(K),
+}
+
+impl<K> From<NoMemory> for PartFault<K> {
+    ghost use Rattle.std.specs.Prelude.{◌≡◌};
+    ghost use Rattle.gh_base.specs.declared.faults.PartFault.TheVariants as part;
+
+    ghost from_gives = { λ _ e. e ≡ part.NoMemory };
+
+    fn from(_: NoMemory) -> PartFault<K> {
+        PartFault::NoMemory
+    }
+}

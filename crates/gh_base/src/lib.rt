@@ -2,7 +2,8 @@
 //! forms in memory, views of roads, lists that contracts see as lists, and plain types.
 //!
 //! Promises: each form in memory keeps its trait's contract; a source is read whole or the cause is
-//! named; a decimal is read exactly. Definitions stand in `specs/`: causes, networks, places, decimals.
+//! named; a decimal is read exactly. Definitions stand in `specs/`: causes, networks, places, maps that
+//! can be said, decimals, readings.
 #![tactic(auto)]
 
 mod decimal;
@@ -29,11 +30,13 @@ pub use decimal::{BadDecimal, read_decimal};
 pub use edges::{
     Arrival, DirEdge, EdgeId, EdgeWords, Hop, Hops, LabelList, LimitList, Limits, NodeId,
 };
-pub use faults::{Failed, GiveFault, NoMemory};
+pub use faults::{Failed, GiveFault, NoMemory, PartFault};
 pub use giving::give_all;
 pub use kinds::{Form, JsonKind, ModelKind, Part, PbfKind, Place3, PlainKind, ScriptKind};
 pub use lists::Sequence;
-pub use map::{IdList, OsmMap, OsmNode, OsmNodes, OsmTag, OsmWay, OsmWays, Point, TagList};
+pub use map::{
+    IdList, MOST_LAT, MOST_LON, OsmMap, OsmNode, OsmNodes, OsmTag, OsmWay, OsmWays, Point, TagList,
+};
 pub use memory::{FreeGate, MemFiles, MemSink, MemSource};
 pub use numbers::{read_id, read_natural};
 pub use outside::{Files, Gate, Sink, Source};

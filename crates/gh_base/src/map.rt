@@ -2,6 +2,12 @@
 use crate::lists::Sequence;
 use crate::text::Text;
 
+/// The greatest latitude, in 1e-7 degree.
+pub const MOST_LAT: u32 = 900_000_000;
+
+/// The greatest longitude, in 1e-7 degree.
+pub const MOST_LON: u32 = 1_800_000_000;
+
 /// A place: whole numbers of 1e-7 degree.
 #[derive(Clone, Copy, Debug, PartialEq, Eq)]
 pub struct Point {

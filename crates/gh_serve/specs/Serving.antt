@@ -12,9 +12,8 @@ use Rattle.map_import.specs.Building.{laid_as}
 use Rattle.script_text.specs.declared.script.Script.{Script}
 use Rattle.script_text.specs.declared.script.ScriptRead.{ScriptRead}
 use Rattle.script_text.specs.Grammar.{script_of}
-use Rattle.traffic_core.specs.Lands.{Land, AreAsLong}
+use Rattle.traffic_core.specs.Lands.{Land, AreAsLong, AreRoadsOf}
 use Rattle.script_service.specs.Writing.{BeginsText, Fits, BeginsOrFits}
-use Rattle.generated_run.specs.Generating.{AreRoadsOf}
 use Rattle.map_import.specs.declared.roads.Roads.{Roads}
 use Rattle.gh_serve.specs.declared.status.MapFault.TheVariants as fault
 use Rattle.gh_serve.specs.declared.status.Status.{Status}

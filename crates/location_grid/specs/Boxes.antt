@@ -2,6 +2,7 @@
 use Rattle.std.specs.Prelude.{◌≤ℤ◌, ◌<◌, pos, neg_ℤ, Option, Some, None}
 use Rattle.std.specs.Int.{int_min, int_max}
 use Rattle.gh_base.specs.declared.map.Point.{Point}
+use Rattle.gh_base.specs.Places.{most_lat, most_lon}
 use Rattle.geo_math.specs.Foot.{foot}
 use Rattle.location_grid.specs.declared.found.Found.{Found}
 use Rattle.location_grid.specs.declared.bounds.Bounds.{Bounds}
@@ -15,10 +16,10 @@ pub record IsIn (bounds : Bounds) (point : Point) : Type 0 where
 
 -- some of a box is on the earth
 pub record MeetsEarth (bounds : Bounds) : Type 0 where
-  pub south : bounds.south ≤ℤ pos 900000000
-  pub north : neg_ℤ (pos 900000000) ≤ℤ bounds.north
-  pub west : bounds.west ≤ℤ pos 1800000000
-  pub east : neg_ℤ (pos 1800000000) ≤ℤ bounds.east
+  pub south : bounds.south ≤ℤ pos most_lat
+  pub north : neg_ℤ (pos most_lat) ≤ℤ bounds.north
+  pub west : bounds.west ≤ℤ pos most_lon
+  pub east : neg_ℤ (pos most_lon) ≤ℤ bounds.east
 
 -- the point of a box that is nearest to p
 unfoldable pub nearest_in : Bounds → Point → Point

@@ -16,7 +16,8 @@ use Rattle.encoded_values.specs.Values.{TwoValues}
 use Rattle.base_graph.specs.Graphs.{Edge, Graph, IsGraph, IsEdge}
 use Rattle.map_import.specs.declared.faults.ImportFault.{ImportFault}
 use Rattle.map_import.specs.declared.faults.ImportFault.TheVariants as fault
-use Rattle.map_import.specs.Roads.{Piece, number, is_numbered, origin, place_at, with_tower, with_towers, first_of, last_of, line_length, inner, edge_of}
+use Rattle.geo_math.specs.Lengths.{line_length}
+use Rattle.map_import.specs.Roads.{Piece, number, is_numbered, origin, place_at, with_tower, with_towers, first_of, last_of, inner, edge_of}
 use Rattle.map_import.specs.Roads as road
 use Rattle.map_import.specs.Refusals.{Laid, lay}
 use Rattle.map_import.specs.Building.{IsBuilt, HasLength, number_of}

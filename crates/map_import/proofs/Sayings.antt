@@ -8,7 +8,8 @@ use Rattle.gh_base.specs.declared.map.Point.{Point}
 use Rattle.base_graph.specs.Graphs.{Edge}
 use Rattle.map_import.specs.declared.faults.ImportFault.{ImportFault}
 use Rattle.map_import.specs.declared.faults.ImportFault.TheVariants as fault
-use Rattle.map_import.specs.Roads.{Piece, IsPiece, cut, cut_from, edge_of, ends_of, first_of, last_of, number, is_numbered, with_tower, with_towers, towers_in_order, points_along, line_length, inner}
+use Rattle.geo_math.specs.Lengths.{line_length}
+use Rattle.map_import.specs.Roads.{Piece, IsPiece, cut, cut_from, edge_of, ends_of, first_of, last_of, number, is_numbered, with_tower, with_towers, towers_in_order, points_along, inner}
 use Rattle.map_import.specs.Refusals.{Laid, lay, lay_all, and_then, nothing}
 use Rattle.map_import.proofs.Built.{has_number, keeps_number, keeps_numbered, make_edge}
 

@@ -5,7 +5,8 @@ use Rattle.std.specs.List.{IsDistinct}
 use Rattle.gh_base.specs.declared.map.Point.{Point}
 use Rattle.base_graph.specs.Graphs.{Edge, Graph, points_along}
 use Rattle.map_import.specs.Refusals.{Laid}
-use Rattle.map_import.specs.Roads.{line_length, place_at, number, is_numbered}
+use Rattle.geo_math.specs.Lengths.{line_length}
+use Rattle.map_import.specs.Roads.{place_at, number, is_numbered}
 
 -- an edge is as long as its segments together
 abbrev pub HasLength : Graph → Edge → Type 0

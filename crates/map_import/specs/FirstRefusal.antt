@@ -3,7 +3,8 @@ use Rattle.std.specs.Prelude.{ℕ, ℤ, ◌<◌, ◌≤◌, ◌≡◌, ◌⊎◌
 use Rattle.gh_base.specs.declared.map.Point.{Point}
 use Rattle.map_import.specs.declared.faults.ImportFault.{ImportFault}
 use Rattle.map_import.specs.declared.faults.ImportFault.TheVariants as fault
-use Rattle.map_import.specs.Roads.{Piece, points_along, line_length, towers_in_order}
+use Rattle.geo_math.specs.Lengths.{line_length}
+use Rattle.map_import.specs.Roads.{Piece, points_along, towers_in_order}
 
 -- an edge of so many mm can stand behind so many edges, where there are so many towers then
 pub record Fits (mm count towers : ℕ) : Type 0 where

@@ -5,7 +5,8 @@ use Rattle.gh_base.specs.declared.map.OsmMap.{OsmMap}
 use Rattle.gh_base.specs.declared.map.OsmNode.{OsmNode}
 use Rattle.gh_base.specs.declared.map.Point.{Point}
 use Rattle.base_graph.specs.Graphs.{Edge}
-use Rattle.map_import.specs.Roads.{UsedWay, used_ways, is_tower, Piece, pieces_of, place_in, points_along, line_length, with_towers, edge_of}
+use Rattle.geo_math.specs.Lengths.{line_length}
+use Rattle.map_import.specs.Roads.{UsedWay, used_ways, is_tower, Piece, pieces_of, place_in, points_along, with_towers, edge_of}
 use Rattle.map_import.specs.declared.faults.ImportFault.{ImportFault}
 use Rattle.map_import.specs.declared.faults.ImportFault.TheVariants as fault
 

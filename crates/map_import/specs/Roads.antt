@@ -10,7 +10,7 @@ use Rattle.gh_base.specs.declared.map.OsmWay.{OsmWay}
 use Rattle.gh_base.specs.declared.map.Point.{Point}
 use Rattle.encoded_values.specs.Values.{TwoValues}
 use Rattle.tag_rules.specs.Values.{values_by}
-use Rattle.geo_math.specs.Lengths.{segment_length}
+use Rattle.geo_math.specs.Lengths.{line_length}
 use Rattle.base_graph.specs.Graphs.{Edge}
 
 -- a way that is used: its id, its nodes with equal neighbours merged, and the values of its edges
@@ -103,12 +103,6 @@ place_at place id = unwrap_or (place id) origin
 
 abbrev pub points_along : (ℤ → Option Point) → List ℤ → List Point
 points_along place refs = map (place_at place) refs
-
--- the sum of the lengths of the segments between neighbouring points, in mm
-abbrev pub line_length : List Point → ℕ
-line_length [] = 0
-line_length (a ∷ []) = 0
-line_length (a ∷ b ∷ points) = segment_length a b + line_length (b ∷ points)
 
 -- the points between the first and the last
 abbrev pub inner : List Point → List Point

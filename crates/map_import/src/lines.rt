@@ -3,7 +3,8 @@ ghost use Rattle.std.specs.Ordering.{int_eq};
 ghost use Rattle.std.specs.Prelude.{◌≡◌, ◌-◌, ◌^◌, ℤ, min, All, IfOk};
 ghost use Rattle.std.specs.HashMap.{get};
 ghost use Rattle.gh_base.specs.Places.{IsOnEarth};
-ghost use Rattle.map_import.specs.Roads.{points_along, line_length};
+ghost use Rattle.geo_math.specs.Lengths.{line_length};
+ghost use Rattle.map_import.specs.Roads.{points_along};
 
 use crate::places::point_at;
 use geo_math::segment_mm;

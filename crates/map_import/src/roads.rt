@@ -5,7 +5,8 @@ ghost use Rattle.std.specs.List.{IsDistinct};
 ghost use Rattle.gh_base.specs.declared.map.OsmNode.{OsmNode};
 ghost use Rattle.gh_base.specs.Places.{IsOnEarth};
 ghost use Rattle.base_graph.specs.Graphs.{edge_at, points_of};
-ghost use Rattle.map_import.specs.Roads.{place_in, points_along, line_length};
+ghost use Rattle.geo_math.specs.Lengths.{line_length};
+ghost use Rattle.map_import.specs.Roads.{place_in, points_along};
 ghost use Rattle.map_import.specs.Refusals.{roads, Refuses};
 ghost use Rattle.map_import.specs.Building.{laid_as};
 

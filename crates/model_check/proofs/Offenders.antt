@@ -1,13 +1,11 @@
 -- Where there is no offender each factor is at most 1, and the other way round.
 use Rattle.std.proofs.Common.{◌≡◌, ℕ, ◌+◌, ◌≤◌, Bool, true, false, ◌&&◌, List, [], ◌∷◌, Option, Some, None, refl, arith, rules}
 use Rattle.std.specs.Prelude.{IfSome, unwrap_or, ◌↔◌}
-use Rattle.std.proofs.lemmas.List.Elements.{All-nil}
 use Rattle.std.proofs.lemmas.Bool.Decides.{nat_tests}
 use Rattle.gh_base.specs.declared.kinds.Part.{Part}
 use Rattle.gh_base.specs.declared.kinds.Part.TheVariants.{Speed, Priority}
 use Rattle.model_eval.specs.declared.custom_model.Statement.{Statement}
 use Rattle.model_eval.specs.declared.custom_model.CustomModel.{CustomModel}
-use Rattle.model_eval.specs.Models.{IsStatement, AreStatements, IsModel}
 use Rattle.model_eval.specs.Slowing.{Offence, factor_of, is_at_most_one, is_slowing, are_slowing, IsSlow, first_of, offence_of, offender_among, low_influence, offender}
 
 no_offence : (part : Part) (item : ℕ) (factor : Option ℕ) → offence_of part item factor ≡ None → is_at_most_one factor ≡ true
@@ -75,12 +73,3 @@ exact profile query = (
       (nothing_slows query p.0 q.0, influence_there profile.distance_influence query.distance_influence q.1),
   λ h. rw (slow_has_none Speed 1 query.speed h.0.speed, slow_has_none Priority 1 query.priority h.0.priority) (influence_back profile.distance_influence query.distance_influence h.1),
 )
-
-no_statements : (areas : ℕ) → AreStatements areas []
-no_statements areas = record { few = omega arith; in_blocks = refl; each = All-nil (IsStatement areas) }
-
-pub nothing_is_model : (influence : Option ℕ) → IsModel (record { speed = []; priority = []; distance_influence = influence; areas = [] })
-nothing_is_model influence = record { speed = no_statements 0; priority = no_statements 0; areas = omega arith }
-
-pub nothing_is_slow : (influence : Option ℕ) → IsSlow (record { speed = []; priority = []; distance_influence = influence; areas = [] })
-nothing_is_slow influence = record { speed = refl; priority = refl }

@@ -1,11 +1,11 @@
 //! The check, and the model without a statement.
 ghost use Rattle.std.specs.Prelude.{◌≡◌, ◌≤◌, ◌*◌, ◌↔◌, length, All, [], MatchOption, IfOk, IfErr, OnOk, None, Some, unwrap_or, IfSome};
-ghost use Rattle.model_eval.specs.Models.{IsBounded, IsModel};
+ghost use Rattle.model_eval.specs.Models.{IsBounded, IsModel, no_model};
 ghost use Rattle.model_eval.specs.Slowing as spec;
 ghost use Rattle.model_eval.specs.declared.custom_model.CustomModel.{CustomModel};
 
-use gh_base::{Part, Sequence};
-use model_eval::{Action, CustomModel, NumberName, SlowModel, Statement};
+use gh_base::Part;
+use model_eval::{Action, CustomModel, NumberName, SlowModel, Statement, no_model};
 use std::alloc::Global;
 use thiserror::Error;
 
@@ -113,17 +113,11 @@ pub fn check(profile: &CustomModel, query: CustomModel) -> Result<SlowModel, Spe
     }
 }
 
-/// The model without a statement. It takes no memory.
-#[tactic(auto, using(crate::proofs::Offenders::nothing_is_model, crate::proofs::Offenders::nothing_is_slow))]
+/// The model without a statement, of which the type says that it only slows. It takes no memory.
 pub fn plain(alloc: Global) -> SlowModel
-    ensures { result ≡ (record { speed = []; priority = []; distance_influence = None; areas = [] }) }
+    ensures { result ≡ no_model }
 {
-    SlowModel::of(CustomModel {
-        speed: Sequence::new(alloc),
-        priority: Sequence::new(alloc),
-        distance_influence: None,
-        areas: Sequence::new(alloc),
-    })
+    SlowModel::of(no_model(alloc))
 }
 
 /// There is an offender exactly where a factor is above 1 or the query's influence of distance is below the

@@ -7,7 +7,7 @@ use gh_base::{Part, Sequence};
 use model_eval::{Action, Branch, CustomModel, NumberName, Statement, Test};
 use std::alloc::Global;
 
-#[tactic(auto, using(crate::proofs::Offenders::nothing_is_model))]
+#[tactic(auto, using(model_eval::proofs::NoStatement::nothing_is_model))]
 fn with_influence(alloc: Global, influence: Option<u32>) -> CustomModel
     ensures { IsModel result }
 {

@@ -1,4 +1,5 @@
 pub mod Bits
 pub mod Blocks
 pub mod Crossings
+pub mod NoStatement
 pub mod Order

@@ -1,5 +1,5 @@
 -- Which custom models there are.
-use Rattle.std.specs.Prelude.{ℕ, ◌≤◌, ◌≡◌, Bool, true, false, ◌&&◌, ◌||◌, IsTrue, List, [], ◌∷◌, length, All}
+use Rattle.std.specs.Prelude.{ℕ, ◌≤◌, ◌≡◌, Bool, true, false, ◌&&◌, ◌||◌, IsTrue, List, [], ◌∷◌, length, All, None}
 use Rattle.model_eval.specs.declared.conditions.Test.TheVariants as test
 use Rattle.model_eval.specs.declared.custom_model.Branch.{Branch}
 use Rattle.model_eval.specs.declared.custom_model.Branch.TheVariants.{If, ElseIf, Else}
@@ -43,3 +43,7 @@ pub record IsModel (model : CustomModel) : Type 0 where
   pub speed : AreStatements (length model.areas) model.speed
   pub priority : AreStatements (length model.areas) model.priority
   pub areas : length model.areas ≤ 50
+
+-- the model without a statement
+abbrev pub no_model : CustomModel
+no_model = record { speed = []; priority = []; distance_influence = None; areas = [] }

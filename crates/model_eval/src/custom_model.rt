@@ -1,6 +1,11 @@
 //! What a custom model is made of.
+ghost use Rattle.std.specs.Prelude.{◌≡◌};
+ghost use Rattle.model_eval.specs.Models.{IsModel, no_model};
+ghost use Rattle.model_eval.specs.Slowing.{IsSlow};
+
 use crate::conditions::{NumberName, Test};
 use gh_base::{Point, Sequence, Text};
+use std::alloc::Global;
 
 /// Where a statement stands in its block: an `if` begins one, and what follows belongs to it.
 #[derive(Clone, Copy, Debug, PartialEq, Eq)]
@@ -60,4 +65,19 @@ pub struct CustomModel {
     pub priority: Statements,
     pub distance_influence: Option<u32>,
     pub areas: Areas,
+}
+
+/// The model without a statement. It takes no memory.
+#[tactic(auto, using(crate::proofs::NoStatement::nothing_is_model, crate::proofs::NoStatement::nothing_is_slow))]
+pub fn no_model(alloc: Global) -> CustomModel
+    ensures value { result ≡ no_model }
+    ensures model { IsModel result }
+    ensures slow { IsSlow result }
+{
+    CustomModel {
+        speed: Sequence::new(alloc),
+        priority: Sequence::new(alloc),
+        distance_influence: None,
+        areas: Sequence::new(alloc),
+    }
 }

@@ -16,6 +16,7 @@ mod statements;
 pub use conditions::{FlagName, NumberName, Op, Test, TestList, WordName};
 pub use custom_model::{
     Action, Area, Areas, Branch, CustomModel, Ring, RingList, Running, Statement, Statements,
+    no_model,
 };
 pub use laws::{keeps_order, slow_runs_raise_nothing, values_are_stored};
 pub use region::{areas_of, inside};

@@ -4,6 +4,7 @@ use Rattle.std.specs.List.{sum_by}
 use Rattle.std.specs.Ordering.{int_eq}
 use Rattle.std.specs.Str.{bytes_eq}
 use Rattle.gh_base.specs.Decimals.{signed}
+use Rattle.gh_base.specs.Places.{most_lat, most_lon}
 use Rattle.gh_base.specs.declared.map.Point.{Point}
 use Rattle.exact_json.specs.Decimals.{DecimalValue}
 use Rattle.exact_json.specs.declared.value.Json.{Json}
@@ -26,8 +27,8 @@ coordinate most v = number_of v >>= rounded most
 -- RFC 7946, 3.1.1, position: longitude, then latitude; further numbers are skipped
 abbrev pub point_by : List Json → Option Point
 point_by (x ∷ y ∷ rest) = do
-  lon ← coordinate 1800000000 x
-  lat ← coordinate 900000000 y
+  lon ← coordinate most_lon x
+  lat ← coordinate most_lat y
   Some (record { lat = lat; lon = lon })
 point_by _ = None
 

@@ -7,13 +7,8 @@ ghost use Rattle.model_parser.specs.Outlines as spec;
 
 use crate::values::{array_of, find, is_array, items, number_of, text_at};
 use exact_json::{Decimal, Json, Member};
-use gh_base::Point;
+use gh_base::{MOST_LAT, MOST_LON, Point};
 use std::slice;
-
-/// The greatest latitude and longitude, in 1e-7 degree.
-const MOST_LAT: u32 = 900_000_000;
-
-const MOST_LON: u32 = 1_800_000_000;
 
 /// How many 1e-7 degrees a degree has.
 const PER_DEGREE: u128 = 10_000_000;

@@ -2,6 +2,7 @@
 -- spaces between them (GraphHopper documentation, "Custom models"; the exact form is this project's own).
 use Rattle.std.specs.Prelude.{ℕ, ◌-◌, min, Bool, ◌||◌, ◌&&◌, List, [], ◌∷◌, length, take, drop, Option, Some, None, Result, Ok, Err, ◌==◌, nat_le, if◌then◌else◌}
 use Rattle.std.specs.List.{prefix_len}
+use Rattle.std.specs.Char.{is_ascii_digit}
 use Rattle.std.specs.Str.{bytes_eq}
 use Rattle.gh_base.specs.declared.kinds.ModelKind.{ModelKind}
 use Rattle.exact_json.specs.Parsing as parsing
@@ -15,15 +16,12 @@ Reader A = parsing.Parser ModelKind A
 abbrev pub begins_word : ℕ → Bool
 begins_word b = (nat_le 97 b && nat_le b 122) || (nat_le 65 b && nat_le b 90) || b == 95
 
-abbrev pub is_digit : ℕ → Bool
-is_digit b = nat_le 48 b && nat_le b 57
-
 abbrev pub in_word : ℕ → Bool
-in_word b = begins_word b || is_digit b
+in_word b = begins_word b || is_ascii_digit b
 
 -- a digit or a point
 abbrev pub in_number : ℕ → Bool
-in_number b = is_digit b || b == 46
+in_number b = is_ascii_digit b || b == 46
 
 -- two bytes that are one operator: == != <= >= && ||
 abbrev pub is_pair : ℕ → ℕ → Bool

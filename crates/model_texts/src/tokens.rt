@@ -17,23 +17,17 @@ pub fn begins_word(b: u8) -> bool
     (b >= b'a' && b <= b'z') || (b >= b'A' && b <= b'Z') || b == b'_'
 }
 
-fn is_digit(b: u8) -> bool
-    ensures { result ≡ spec.is_digit b }
-{
-    b >= b'0' && b <= b'9'
-}
-
 /// Whether a byte is a letter, a digit or an underscore.
 pub fn in_word(b: u8) -> bool
     ensures { result ≡ spec.in_word b }
 {
-    begins_word(b) || is_digit(b)
+    begins_word(b) || b.is_ascii_digit()
 }
 
 fn in_number(b: u8) -> bool
     ensures { result ≡ spec.in_number b }
 {
-    is_digit(b) || b == b'.'
+    b.is_ascii_digit() || b == b'.'
 }
 
 fn is_pair(a: u8, b: u8) -> bool

@@ -33,7 +33,7 @@ use Rattle.pbf_wire.specs.Blocks.{block_of, texts_in, scale_of, groups_with, blo
 use Rattle.pbf_wire.specs.Headers.{header_block}
 use Rattle.pbf_wire.specs.Blobs.{header_at, is_named, content_at, blob_with}
 use Rattle.pbf_wire.specs.Files.{at_end, blobs_from, reads}
-use Rattle.pbf_wire.specs.Maps.{IsShort, IsFileNode, IsFileWay, IsFileMap}
+use Rattle.gh_base.specs.Maps.{IsShort, IsFileNode, IsFileWay, IsFileMap}
 use Rattle.pbf_reader.specs.declared.fault.PbfFault.{PbfFault}
 use Rattle.pbf_reader.specs.Reading.{Gives}
 

@@ -7,15 +7,9 @@ use crate::deltas::{coordinate, fits_id, zigzag};
 use crate::fault::{PbfFault, fault};
 use crate::pieces::scalar;
 use crate::runs::read_run;
-use gh_base::{NoMemory, OsmNode, PbfKind, Point};
+use gh_base::{MOST_LAT, MOST_LON, NoMemory, OsmNode, PbfKind, Point};
 use pbf_wire::{Axis, Node, Scale};
 use std::alloc::Global;
-
-/// The greatest latitude, in 1e-7 degree.
-const MOST_LAT: u32 = 900000000;
-
-/// The greatest longitude, in 1e-7 degree.
-const MOST_LON: u32 = 1800000000;
 
 /// The node from a place to the end, as it is written.
 #[tactic(auto, unfolding(pbf_wire::specs::Nodes::node_of))]

@@ -4,7 +4,7 @@ ghost use Rattle.std.specs.Io.KnownBytes.{IsAtEnd};
 ghost use Rattle.gh_base.specs.Causes.{Rose};
 ghost use Rattle.gh_base.specs.Places.{IsOnEarth};
 ghost use Rattle.pbf_wire.specs.Files.{reads};
-ghost use Rattle.pbf_wire.specs.Maps.{IsFileMap};
+ghost use Rattle.gh_base.specs.Maps.{IsFileMap};
 ghost use Rattle.pbf_reader.specs.Reading.{Gives, Answers};
 
 use crate::blobs::{read_header, with_blob};

@@ -3,6 +3,7 @@ use Rattle.std.specs.Prelude.{ℕ, List, None, not, Result, Ok}
 use Rattle.gh_base.specs.declared.kinds.PbfKind.{PbfKind}
 use Rattle.gh_base.specs.declared.kinds.PbfKind.TheVariants.{Missing, BadId, BadPlace}
 use Rattle.gh_base.specs.declared.map.OsmNode.{OsmNode}
+use Rattle.gh_base.specs.Places.{most_lat, most_lon}
 use Rattle.pbf_wire.specs.declared.messages.Node.{Node}
 use Rattle.pbf_wire.specs.declared.messages.Scale.{Scale}
 use Rattle.pbf_wire.specs.declared.messages.Axis.{Axis}
@@ -20,11 +21,11 @@ node_of bytes at =
 
 -- latitudes: to 90 degrees
 abbrev pub lat_axis : Scale → Axis
-lat_axis scale = record { granularity = scale.granularity; offset = scale.lat_offset; most = 900000000 }
+lat_axis scale = record { granularity = scale.granularity; offset = scale.lat_offset; most = most_lat }
 
 -- longitudes: to 180 degrees
 abbrev pub lon_axis : Scale → Axis
-lon_axis scale = record { granularity = scale.granularity; offset = scale.lon_offset; most = 1800000000 }
+lon_axis scale = record { granularity = scale.granularity; offset = scale.lon_offset; most = most_lon }
 
 -- the node that it says, or its first fault
 unfoldable pub node_with : Scale → Node → Result OsmNode (ℕ × PbfKind)

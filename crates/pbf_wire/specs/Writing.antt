@@ -1,5 +1,5 @@
 -- A map as a PBF file with blobs that are not compressed (OSM wiki, "PBF Format").
-use Rattle.std.specs.Prelude.{◌≡◌, ℕ, ◌+◌, ◌^◌, ◌<◌, zero, suc, ℤ, pos, nat_abs, Bool, true, not, ◌||◌, List, [], ◌∷◌, ◌++◌, length, take, drop, map, filter, All, IsUtf8, codes, nat_lt, nat_le, ◌==◌, if◌then◌else◌}
+use Rattle.std.specs.Prelude.{◌≡◌, ℕ, ◌+◌, zero, suc, pos, Bool, true, not, ◌||◌, List, [], ◌∷◌, ◌++◌, length, take, drop, map, filter, All, codes, nat_lt, nat_le, ◌==◌, if◌then◌else◌}
 use Rattle.std.specs.List.{position_or_len}
 use Rattle.std.specs.Str.{bytes_eq}
 use Rattle.std.specs.Int.{cast_unsigned, w64, bytes_high_first}
@@ -7,7 +7,7 @@ use Rattle.gh_base.specs.declared.map.OsmTag.{OsmTag}
 use Rattle.gh_base.specs.declared.map.OsmNode.{OsmNode}
 use Rattle.gh_base.specs.declared.map.OsmWay.{OsmWay}
 use Rattle.gh_base.specs.declared.map.OsmMap.{OsmMap}
-use Rattle.gh_base.specs.Places.{IsOnEarth}
+use Rattle.gh_base.specs.Maps.{IsFileNode, IsTextWay}
 use Rattle.pbf_wire.specs.Parts.{Part, message_text, deltas}
 
 -- these words, each once, in the order in which they come first
@@ -115,29 +115,12 @@ pbf_text m = entry_text (codes "OSMHeader") features_text ++ (blocks_text (map n
 abbrev pub fits : OsmWay → Bool
 fits way = nat_le (length (ways_block (way ∷ []))) 33554432
 
--- an id of at most eighteen digits
-abbrev pub IsShort : ℤ → Type 0
-IsShort id = nat_abs id < 10 ^ 18
-
-pub record HasShortIds (way : OsmWay) : Type 0 where
-  pub id : IsShort way.id
-  pub refs : All IsShort way.refs
-
--- a tag of two texts
-pub record IsTextTag (tag : OsmTag) : Type 0 where
-  pub key : IsUtf8 tag.key
-  pub value : IsUtf8 tag.value
-
-pub record IsWritableNode (node : OsmNode) : Type 0 where
-  pub id : IsShort node.id
-  pub place : IsOnEarth node.place
-
+-- a way that its file can say, in a block of its own
 pub record IsWritableWay (way : OsmWay) : Type 0 where
-  pub ids : HasShortIds way
-  pub tags : All IsTextTag way.tags
+  pub text : IsTextWay way
   pub fits : fits way ≡ true
 
 -- a map that its file can say
 pub record IsWritable (m : OsmMap) : Type 0 where
-  pub nodes : All IsWritableNode m.nodes
+  pub nodes : All IsFileNode m.nodes
   pub ways : All IsWritableWay m.ways

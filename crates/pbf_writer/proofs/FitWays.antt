@@ -12,7 +12,8 @@ use Rattle.gh_base.specs.declared.map.OsmMap.{OsmMap}
 use Rattle.pbf_wire.specs.Files.{reads}
 use Rattle.pbf_wire.specs.Put.{bytes_field}
 use Rattle.pbf_wire.specs.Parts.{Part, part_text, message_text, deltas}
-use Rattle.pbf_wire.specs.Writing.{IsShort, IsTextTag, IsWritableWay, IsWritable, fits, firsts, words_of, all_words, table_of, index_of, way_text, strings_text, block_text, ways_block, is_end, end_from, ways_count, cut, pbf_text}
+use Rattle.gh_base.specs.Maps.{IsShort, IsTextTag}
+use Rattle.pbf_wire.specs.Writing.{IsWritableWay, IsWritable, fits, firsts, words_of, all_words, table_of, index_of, way_text, strings_text, block_text, ways_block, is_end, end_from, ways_count, cut, pbf_text}
 use Rattle.pbf_writer.proofs.FieldsRead.{IsPart, bytes_some}
 use Rattle.pbf_writer.proofs.NodesRead.{IsSmall, small_short, zero_small}
 use Rattle.pbf_writer.proofs.WaysRead.{HasParts, IsReadable}
@@ -61,7 +62,7 @@ words_text (tag ∷ tags) h = (h.0.key, (h.0.value, words_text tags h.1))
 
 ways_words : (ways : List OsmWay) → AllByRecursion IsWritableWay ways → AllByRecursion IsUtf8 (all_words ways)
 ways_words [] h = tt
-ways_words (way ∷ ways) h = all_join IsUtf8 (words_of way.tags) (all_words ways) (words_text way.tags (all_of IsTextTag way.tags h.0.tags)) (ways_words ways h.1)
+ways_words (way ∷ ways) h = all_join IsUtf8 (words_of way.tags) (all_words ways) (words_text way.tags (all_of IsTextTag way.tags h.0.text.tags)) (ways_words ways h.1)
 
 table_text : (ways : List OsmWay) → AllByRecursion IsWritableWay ways → AllByRecursion IsUtf8 (table_of ways)
 unfolding table_of
@@ -96,8 +97,8 @@ way_fits table way few has small h =
     let key_least = packed_least 2 (map (λ (tag : OsmTag). index_of table tag.key) way.tags) in
     let value_least = packed_least 3 (map (λ (tag : OsmTag). index_of table tag.value) way.tags) in
     let ref_least = packed_least 8 (deltas (pos 0) way.refs) in
-    let refs = all_of IsShort way.refs h.ids.refs in (
-      (omega arith, omega arith, id_fits way.id h.ids.id),
+    let refs = all_of IsShort way.refs h.text.ids.refs in (
+      (omega arith, omega arith, id_fits way.id h.text.ids.id),
       (
         (omega arith, omega arith, omega arith, keys_fit table way.tags few has),
         (
@@ -117,7 +118,7 @@ ways_fit table (way ∷ ways) few has small h =
 
 ways_readable : (table : List (List ℕ)) (ways : List OsmWay) → AllByRecursion (Has table) (all_words ways) → AllByRecursion IsWritableWay ways → AllByRecursion (IsReadable table) ways
 ways_readable table [] has h = tt
-ways_readable table (way ∷ ways) has h = (record { has = all_front (Has table) (words_of way.tags) (all_words ways) has; id = h.0.ids.id; refs = all_of IsShort way.refs h.0.ids.refs }, ways_readable table ways (all_behind (Has table) (words_of way.tags) (all_words ways) has) h.1)
+ways_readable table (way ∷ ways) has h = (record { has = all_front (Has table) (words_of way.tags) (all_words ways) has; id = h.0.text.ids.id; refs = all_of IsShort way.refs h.0.text.ids.refs }, ways_readable table ways (all_behind (Has table) (words_of way.tags) (all_words ways) has) h.1)
 
 good_ways : (ways : List OsmWay) → length (ways_block ways) ≤ 33554432 → AllByRecursion IsWritableWay ways → GoodWays ways
 unfolding ways_block block_text

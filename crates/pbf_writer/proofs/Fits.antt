@@ -6,7 +6,8 @@ use Rattle.std.specs.List.{All, AllByRecursion}
 use Rattle.gh_base.specs.declared.map.OsmNode.{OsmNode}
 use Rattle.pbf_wire.specs.Put.{varint_bytes, bytes_field}
 use Rattle.pbf_wire.specs.Parts.{Part, part_text, varints_text, sint, deltas}
-use Rattle.pbf_wire.specs.Writing.{IsShort, IsWritableNode, block_text, nodes_block, cut, nodes_parts}
+use Rattle.gh_base.specs.Maps.{IsShort, IsFileNode}
+use Rattle.pbf_wire.specs.Writing.{block_text, nodes_block, cut, nodes_parts}
 use Rattle.pbf_writer.proofs.Counts.{varint_most, field_most}
 use Rattle.pbf_writer.proofs.FieldsRead.{varint_some}
 use Rattle.pbf_writer.proofs.NodesRead.{IsSmall, small_short, delta_is, length-deltas, zero_small}
@@ -81,13 +82,13 @@ deltas_most number zs few =
     let two = packed_most number (deltas (pos 0) zs) in
     (omega arith, omega arith)
 
-small_lat : (node : OsmNode) → IsWritableNode node → IsSmall node.place.lat
+small_lat : (node : OsmNode) → IsFileNode node → IsSmall node.place.lat
 small_lat node h = omega (arith, ints, h.place.south, h.place.north)
 
-small_lon : (node : OsmNode) → IsWritableNode node → IsSmall node.place.lon
+small_lon : (node : OsmNode) → IsFileNode node → IsSmall node.place.lon
 small_lon node h = omega (arith, ints, h.place.west, h.place.east)
 
-pub good_nodes : (nodes : List OsmNode) → length nodes ≤ 8000 → AllByRecursion IsWritableNode nodes → GoodNodes nodes
+pub good_nodes : (nodes : List OsmNode) → length nodes ≤ 8000 → AllByRecursion IsFileNode nodes → GoodNodes nodes
 unfolding nodes_block block_text
 good_nodes nodes few all =
     let ids = map (λ (node : OsmNode). node.id) nodes in
@@ -99,9 +100,9 @@ good_nodes nodes few all =
     let id_text = part_text (Part.Packed 1 (deltas (pos 0) (map (λ (node : OsmNode). node.id) nodes))) in
     let lat_text = part_text (Part.Packed 8 (deltas (pos 0) (map (λ (node : OsmNode). node.place.lat) nodes))) in
     let lon_text = part_text (Part.Packed 9 (deltas (pos 0) (map (λ (node : OsmNode). node.place.lon) nodes))) in
-    let ids_fit = deltas_fit (pos 0) (map (λ (node : OsmNode). node.id) nodes) zero_small (all_map IsWritableNode IsSmall (λ (node : OsmNode). node.id) (λ node h. small_short node.id h.id) nodes all) in
-    let lats_fit = deltas_fit (pos 0) (map (λ (node : OsmNode). node.place.lat) nodes) zero_small (all_map IsWritableNode IsSmall (λ (node : OsmNode). node.place.lat) small_lat nodes all) in
-    let lons_fit = deltas_fit (pos 0) (map (λ (node : OsmNode). node.place.lon) nodes) zero_small (all_map IsWritableNode IsSmall (λ (node : OsmNode). node.place.lon) small_lon nodes all) in
+    let ids_fit = deltas_fit (pos 0) (map (λ (node : OsmNode). node.id) nodes) zero_small (all_map IsFileNode IsSmall (λ (node : OsmNode). node.id) (λ node h. small_short node.id h.id) nodes all) in
+    let lats_fit = deltas_fit (pos 0) (map (λ (node : OsmNode). node.place.lat) nodes) zero_small (all_map IsFileNode IsSmall (λ (node : OsmNode). node.place.lat) small_lat nodes all) in
+    let lons_fit = deltas_fit (pos 0) (map (λ (node : OsmNode). node.place.lon) nodes) zero_small (all_map IsFileNode IsSmall (λ (node : OsmNode). node.place.lon) small_lon nodes all) in
     let dense = id_text ++ (lat_text ++ (lon_text ++ [])) in
     let dense_size : length (id_text ++ (lat_text ++ (lon_text ++ []))) ≡ length id_text + (length lat_text + length lon_text) = simp (length-append, append-nil) in
     let dense_field = field_most 2 dense in
@@ -118,26 +119,26 @@ good_nodes nodes few all =
         block = ((omega arith, omega arith, omega arith), ((omega arith, omega arith, omega (arith, id_most.1, lat_most.1, lon_most.1)), tt));
       };
       are = record {
-        ids = all_map IsWritableNode IsShort (λ (node : OsmNode). node.id) (λ node h. h.id) nodes all;
-        lats = all_map IsWritableNode (λ z. nat_abs z ≤ 900000000) (λ (node : OsmNode). node.place.lat) near_lat nodes all;
-        lons = all_map IsWritableNode (λ z. nat_abs z ≤ 1800000000) (λ (node : OsmNode). node.place.lon) near_lon nodes all;
+        ids = all_map IsFileNode IsShort (λ (node : OsmNode). node.id) (λ node h. h.id) nodes all;
+        lats = all_map IsFileNode (λ z. nat_abs z ≤ 900000000) (λ (node : OsmNode). node.place.lat) near_lat nodes all;
+        lons = all_map IsFileNode (λ z. nat_abs z ≤ 1800000000) (λ (node : OsmNode). node.place.lon) near_lon nodes all;
       };
       small = omega (arith, id_most.1, lat_most.1, lon_most.1);
     }
   where
-    near_lat : (node : OsmNode) → IsWritableNode node → nat_abs node.place.lat ≤ 900000000
+    near_lat : (node : OsmNode) → IsFileNode node → nat_abs node.place.lat ≤ 900000000
     near_lat node h = omega (arith, ints, h.place.south, h.place.north)
 
-    near_lon : (node : OsmNode) → IsWritableNode node → nat_abs node.place.lon ≤ 1800000000
+    near_lon : (node : OsmNode) → IsFileNode node → nat_abs node.place.lon ≤ 1800000000
     near_lon node h = omega (arith, ints, h.place.west, h.place.east)
 
 -- a front of a list is a block's, and so are the parts
-nodes_all : (most : ℕ) (nodes : List OsmNode) → AllByRecursion IsWritableNode nodes → AllByRecursion GoodNodes (cut (λ left. 8000) most nodes)
+nodes_all : (most : ℕ) (nodes : List OsmNode) → AllByRecursion IsFileNode nodes → AllByRecursion GoodNodes (cut (λ left. 8000) most nodes)
 nodes_all zero nodes all = tt
 nodes_all (suc most) [] all = tt
 nodes_all (suc most) (node ∷ nodes) all =
     let size : length (take 8000 (node ∷ nodes)) ≡ min 8000 (length (node ∷ nodes)) = length-take 8000 (node ∷ nodes) in
-    (good_nodes (take 8000 (node ∷ nodes)) (omega arith) (all_take IsWritableNode 8000 (node ∷ nodes) all), nodes_all most (drop 8000 (node ∷ nodes)) (all_drop IsWritableNode 8000 (node ∷ nodes) all))
+    (good_nodes (take 8000 (node ∷ nodes)) (omega arith) (all_take IsFileNode 8000 (node ∷ nodes) all), nodes_all most (drop 8000 (node ∷ nodes)) (all_drop IsFileNode 8000 (node ∷ nodes) all))
 
-pub good_parts : (nodes : List OsmNode) → AllByRecursion IsWritableNode nodes → AllByRecursion GoodNodes (nodes_parts nodes)
+pub good_parts : (nodes : List OsmNode) → AllByRecursion IsFileNode nodes → AllByRecursion GoodNodes (nodes_parts nodes)
 good_parts nodes all = nodes_all (length nodes) nodes all

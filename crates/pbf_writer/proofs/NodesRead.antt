@@ -14,7 +14,8 @@ use Rattle.pbf_wire.specs.Pieces.{part_of}
 use Rattle.pbf_wire.specs.Deltas.{zigzag_of, is_id, ids_from, coordinate_of, coordinates_from}
 use Rattle.pbf_wire.specs.Dense.{dense_of, dense_with, nodes_of}
 use Rattle.pbf_wire.specs.Parts.{message_text, sint, deltas}
-use Rattle.pbf_wire.specs.Writing.{IsShort, dense_parts}
+use Rattle.gh_base.specs.Maps.{IsShort}
+use Rattle.pbf_wire.specs.Writing.{dense_parts}
 use Rattle.pbf_writer.proofs.FieldsRead.{IsPart, message_read}
 use Rattle.pbf_writer.proofs.ListsRead.{values_read}
 

@@ -17,7 +17,8 @@ use Rattle.pbf_wire.specs.Put.{bytes_field}
 use Rattle.pbf_wire.specs.Ways.{way_of, way_with, tags_of}
 use Rattle.pbf_wire.specs.Groups.{messages_of, message_in, messages_with, message_with}
 use Rattle.pbf_wire.specs.Parts.{Part, message_text, deltas}
-use Rattle.pbf_wire.specs.Writing.{IsShort, index_of, words_of, way_parts, way_text}
+use Rattle.gh_base.specs.Maps.{IsShort}
+use Rattle.pbf_wire.specs.Writing.{index_of, words_of, way_parts, way_text}
 use Rattle.pbf_writer.proofs.FieldsRead.{IsPart, lead, spots_of, message_read, content_there, start_there}
 use Rattle.pbf_writer.proofs.ListsRead.{values_read, scalar_read}
 use Rattle.pbf_writer.proofs.NodesRead.{ids_again, short_id, zero_small}

@@ -6,7 +6,8 @@ use Rattle.std.proofs.lemmas.Bool.Decides.{nat_tests}
 use Rattle.std.proofs.lemmas.Str.{IsUtf8-append, IsUtf8-nil, IsUtf8-from_ascii, encode_ascii}
 use Rattle.std.proofs.lemmas.Str.Ascii.{IsAscii-nil}
 use lib.Utf8.{encode, encodes, scalar, scalars}
-use Rattle.plain_map.specs.Printing.{IsShort, is_escaped, escape, escaped, places_text, dotted, degrees_text, coordinate_text}
+use Rattle.gh_base.specs.Maps.{IsShort}
+use Rattle.plain_map.specs.Printing.{is_escaped, escape, escaped, places_text, dotted, degrees_text, coordinate_text}
 use Rattle.plain_map.proofs.Splits.{Each, each_append, each_more, IsClean}
 use Rattle.plain_map.proofs.PrintedNumbers.{IsDigit, decimal_spells}
 use Rattle.plain_map.proofs.PrintedPlaces.{places_spelled}

@@ -9,12 +9,13 @@ use Rattle.gh_base.specs.declared.map.OsmTag.{OsmTag}
 use Rattle.gh_base.specs.declared.map.OsmNode.{OsmNode}
 use Rattle.gh_base.specs.declared.map.OsmWay.{OsmWay}
 use Rattle.gh_base.specs.declared.map.OsmMap.{OsmMap}
+use Rattle.gh_base.specs.Maps.{IsShort, IsTextTag, IsFileNode, IsTextWay}
 use Rattle.gh_base.specs.Parts.{parts_of}
 use Rattle.plain_map.specs.declared.fault.PlainFault.{PlainFault}
 use Rattle.plain_map.specs.declared.line.Item.TheVariants.{Node, Way}
 use Rattle.plain_map.specs.Fields.{tags_at, refs_at, node_with, way_with}
 use Rattle.plain_map.specs.Lines.{node_line, way_line, line_at, reads_from, reads}
-use Rattle.plain_map.specs.Printing.{IsShort, IsTextTag, IsPrintableNode, IsPrintableWay, IsPrintable, coordinate_text, tag_text, ref_text, listed, place_text, node_text, way_text, lines_text, plain_text, escaped}
+use Rattle.plain_map.specs.Printing.{IsPrintable, coordinate_text, tag_text, ref_text, listed, place_text, node_text, way_text, lines_text, plain_text, escaped}
 use Rattle.plain_map.proofs.Splits.{Each, each_append, each_more, Without, cut_at, cut_end, no_newline}
 use Rattle.plain_map.proofs.PrintedNumbers.{id_again}
 use Rattle.plain_map.proofs.PrintedPlaces.{coordinate_again}
@@ -141,20 +142,20 @@ within : (most : ℕ) (z : ℤ) → neg_ℤ (pos most) ≤ℤ z → z ≤ℤ pos
 within most (pos n) low high = omega (arith, ints)
 within most (negsuc n) low high = omega (arith, ints)
 
-pub node_again : (node : OsmNode) → IsPrintableNode node → line_at (node_text node) ≡ Ok (Some (Node node))
+pub node_again : (node : OsmNode) → IsFileNode node → line_at (node_text node) ≡ Ok (Some (Node node))
 unfolding line_at node_text
 node_again node h =
     let lat : nat_abs node.place.lat ≤ 900000000 = within 900000000 node.place.lat h.place.south h.place.north in
     let lon : nat_abs node.place.lon ≤ 1800000000 = within 1800000000 node.place.lon h.place.west h.place.east in
     rw (utf8_line _ (node_utf8 node.id node.place.lat node.place.lon h.id (omega arith) (omega arith)), node_parts node.id node.place.lat node.place.lon h.id (omega arith) (omega arith), node_line_again _ node.id node.place.lat node.place.lon h.id lat lon) refl
 
-pub way_again : (way : OsmWay) → IsPrintableWay way → line_at (way_text way) ≡ Ok (Some (Way way))
+pub way_again : (way : OsmWay) → IsTextWay way → line_at (way_text way) ≡ Ok (Some (Way way))
 unfolding line_at way_text
 way_again way h =
     let tags = all_items IsTextTag way.tags h.tags in
-    let refs = all_items IsShort way.refs h.refs in
-    let first = no_space (119 ∷ signed_decimal way.id) (letter 119 (omega arith), word_number (signed_decimal way.id) (id_bytes way.id h.id)) in
-    rw (utf8_line _ (way_utf8 way.id way.tags way.refs h.id tags refs), way_parts (119 ∷ signed_decimal way.id) (map tag_text way.tags) (map ref_text way.refs) first (tags_above way.tags) (refs_above way.refs refs), way_line_again way.id way.tags way.refs h.id refs) refl
+    let refs = all_items IsShort way.refs h.ids.refs in
+    let first = no_space (119 ∷ signed_decimal way.id) (letter 119 (omega arith), word_number (signed_decimal way.id) (id_bytes way.id h.ids.id)) in
+    rw (utf8_line _ (way_utf8 way.id way.tags way.refs h.ids.id tags refs), way_parts (119 ∷ signed_decimal way.id) (map tag_text way.tags) (map ref_text way.refs) first (tags_above way.tags) (refs_above way.refs refs), way_line_again way.id way.tags way.refs h.ids.id refs) refl
 
 -- ---- whole maps
 
@@ -164,7 +165,7 @@ at_least a h = each_more (λ b. 32 < b) _ (λ b k. omega arith) a h
 number_least : (a : List ℕ) → Each IsOfNumber a → Each (λ b. 32 ≤ b) a
 number_least a h = each_more IsOfNumber _ (λ b k. omega (arith, k.low)) a h
 
-node_bytes : (node : OsmNode) → IsPrintableNode node → Each (λ b. 32 ≤ b) (node_text node)
+node_bytes : (node : OsmNode) → IsFileNode node → Each (λ b. 32 ≤ b) (node_text node)
 unfolding node_text
 node_bytes node h =
     let lat : nat_abs node.place.lat ≤ 900000000 = within 900000000 node.place.lat h.place.south h.place.north in
@@ -177,23 +178,23 @@ lead_bytes : (b : ℕ) (parts : List (List ℕ)) → 64 < b → AllItems (Each (
 lead_bytes b [] lt h = tt
 lead_bytes b (p ∷ ps) lt h = (omega arith, (omega arith, at_least (p ++ listed (codes ",") ps) (each_append (λ c. 32 < c) p (listed (codes ",") ps) h.0 (listed_above ps h.1))))
 
-way_bytes : (way : OsmWay) → IsPrintableWay way → Each (λ b. 32 ≤ b) (way_text way)
+way_bytes : (way : OsmWay) → IsTextWay way → Each (λ b. 32 ≤ b) (way_text way)
 unfolding way_text
 way_bytes way h =
-    let refs = all_items IsShort way.refs h.refs in
+    let refs = all_items IsShort way.refs h.ids.refs in
     let behind = each_append (λ b. 32 ≤ b) (listed (codes " T") (map tag_text way.tags)) (listed (codes " N") (map ref_text way.refs)) (lead_bytes 84 (map tag_text way.tags) (omega arith) (tags_above way.tags)) (lead_bytes 78 (map ref_text way.refs) (omega arith) (refs_above way.refs refs)) in
-    (omega arith, each_append (λ b. 32 ≤ b) (signed_decimal way.id) (listed (codes " T") (map tag_text way.tags) ++ listed (codes " N") (map ref_text way.refs)) (number_least (signed_decimal way.id) (id_bytes way.id h.id)) behind)
+    (omega arith, each_append (λ b. 32 ≤ b) (signed_decimal way.id) (listed (codes " T") (map tag_text way.tags) ++ listed (codes " N") (map ref_text way.refs)) (number_least (signed_decimal way.id) (id_bytes way.id h.ids.id)) behind)
 
 line_cut : (line lines rest : List ℕ) → Each (λ b. 32 ≤ b) line → parts_of 10 ((line ++ 10 ∷ lines) ++ rest) ≡ line ∷ parts_of 10 (lines ++ rest)
 line_cut line lines rest h = rw (append_assoc line (10 ∷ lines) rest) (cut_at 10 line (lines ++ rest) (no_newline line h))
 
-nodes_read : (nodes : List OsmNode) (rest : List ℕ) (number : ℕ) (before : List OsmNode) (ways : List OsmWay) (answer : Result OsmMap PlainFault) → AllItems IsPrintableNode nodes → ((k : ℕ) → reads_from k (record { nodes = before ++ nodes; ways = ways }) (parts_of 10 rest) ≡ answer) → reads_from number (record { nodes = before; ways = ways }) (parts_of 10 (lines_text (map node_text nodes) ++ rest)) ≡ answer
+nodes_read : (nodes : List OsmNode) (rest : List ℕ) (number : ℕ) (before : List OsmNode) (ways : List OsmWay) (answer : Result OsmMap PlainFault) → AllItems IsFileNode nodes → ((k : ℕ) → reads_from k (record { nodes = before ++ nodes; ways = ways }) (parts_of 10 rest) ≡ answer) → reads_from number (record { nodes = before; ways = ways }) (parts_of 10 (lines_text (map node_text nodes) ++ rest)) ≡ answer
 nodes_read [] rest number before ways answer h f = rw (append-nil before) at (f number)
 nodes_read (node ∷ nodes) rest number before ways answer h f =
     rw (line_cut (node_text node) (lines_text (map node_text nodes)) rest (node_bytes node h.0), node_again node h.0)
     (nodes_read nodes rest (number + 1) (before ++ node ∷ []) ways answer h.1 (λ k. rw (append_assoc before (node ∷ []) nodes) (f k)))
 
-ways_read : (ways : List OsmWay) (rest : List ℕ) (number : ℕ) (nodes : List OsmNode) (before : List OsmWay) (answer : Result OsmMap PlainFault) → AllItems IsPrintableWay ways → ((k : ℕ) → reads_from k (record { nodes = nodes; ways = before ++ ways }) (parts_of 10 rest) ≡ answer) → reads_from number (record { nodes = nodes; ways = before }) (parts_of 10 (lines_text (map way_text ways) ++ rest)) ≡ answer
+ways_read : (ways : List OsmWay) (rest : List ℕ) (number : ℕ) (nodes : List OsmNode) (before : List OsmWay) (answer : Result OsmMap PlainFault) → AllItems IsTextWay ways → ((k : ℕ) → reads_from k (record { nodes = nodes; ways = before ++ ways }) (parts_of 10 rest) ≡ answer) → reads_from number (record { nodes = nodes; ways = before }) (parts_of 10 (lines_text (map way_text ways) ++ rest)) ≡ answer
 ways_read [] rest number nodes before answer h f = rw (append-nil before) at (f number)
 ways_read (way ∷ ways) rest number nodes before answer h f =
     rw (line_cut (way_text way) (lines_text (map way_text ways)) rest (way_bytes way h.0), way_again way h.0)
@@ -206,7 +207,7 @@ end_read k m = refl
 pub map_again : (m : OsmMap) → IsPrintable m → reads (plain_text m) ≡ Ok m
 unfolding reads
 map_again m h =
-    let nodes = all_items IsPrintableNode m.nodes h.nodes in
-    let ways = all_items IsPrintableWay m.ways h.ways in
+    let nodes = all_items IsFileNode m.nodes h.nodes in
+    let ways = all_items IsTextWay m.ways h.ways in
     nodes_read m.nodes (lines_text (map way_text m.ways)) 1 [] [] (Ok m) nodes
     (λ k. rw (← append-nil (lines_text (map way_text m.ways))) (ways_read m.ways [] k m.nodes [] (Ok m) ways (λ i. end_read i m)))

@@ -6,7 +6,7 @@ use Rattle.std.proofs.lemmas.Bool.{ne_eqb}
 use Rattle.std.proofs.lemmas.Bool.Decides.{nat_tests}
 use Rattle.std.proofs.lemmas.Fmt.{decimal_by_steps, length-decimal-le}
 use Rattle.gh_base.specs.Decimals.{digits_from, natural_of, id_of, is_minus}
-use Rattle.plain_map.specs.Printing.{IsShort}
+use Rattle.gh_base.specs.Maps.{IsShort}
 use Rattle.plain_map.proofs.Splits.{Each, each_append}
 
 pub record IsDigit (b : ℕ) : Type 0 where

@@ -6,7 +6,8 @@ use Rattle.std.proofs.lemmas.Bool.Decides.{nat_tests}
 use Rattle.gh_base.specs.declared.map.OsmTag.{OsmTag}
 use Rattle.gh_base.specs.Parts.{parts_of}
 use Rattle.plain_map.specs.Fields.{tag_at, tags_of, tags_at, is_pair, refs_of, refs_at}
-use Rattle.plain_map.specs.Printing.{IsShort, escaped, tag_text, ref_text, listed}
+use Rattle.gh_base.specs.Maps.{IsShort}
+use Rattle.plain_map.specs.Printing.{escaped, tag_text, ref_text, listed}
 use Rattle.plain_map.proofs.Splits.{Each, each_append, each_more, IsClean, no_comma, no_equals, cut_at, cut_end}
 use Rattle.plain_map.proofs.PrintedNumbers.{id_again}
 use Rattle.plain_map.proofs.PrintedTexts.{text_again, escaped_clean}

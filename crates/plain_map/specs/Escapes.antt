@@ -1,25 +1,14 @@
 -- Keys and values as they are written: some characters stand as escapes, `%20%` for a space (OPL, "OPL File Format Manual").
-use Rattle.std.specs.Prelude.{◌≡◌, ℕ, ◌+◌, ◌*◌, Bool, ◌&&◌, ◌||◌, List, [], ◌∷◌, ◌++◌, length, Option, Some, None, Result, Ok, Err, nat_lt, nat_le, encode_utf8, if◌then◌else◌}
+use Rattle.std.specs.Prelude.{ℕ, ◌+◌, ◌*◌, Bool, ◌&&◌, ◌||◌, List, [], ◌∷◌, ◌++◌, length, Option, Some, None, Result, Ok, Err, nat_lt, nat_le, encode_utf8, if◌then◌else◌}
 use Rattle.std.specs.Char.{digit_value}
 use Rattle.gh_base.specs.declared.kinds.PlainKind.{PlainKind}
 use Rattle.gh_base.specs.declared.kinds.PlainKind.TheVariants.{Escape}
 use Rattle.gh_base.specs.Parts.{parts_of}
-use Rattle.plain_map.specs.declared.fault.WordFault.{WordFault}
-use Rattle.plain_map.specs.declared.fault.WordFault.TheVariants as faults
 
 infixl 10 ◌>>=◌
 abbrev pub ◌>>=◌ : {A B K : Type 0} → Result A K → (A → Result B K) → Result B K
 (Ok x) >>= f = f x
 (Err kind) >>= f = Err kind
-
--- what a function returned is what a reading gives, unless memory ran out
-abbrev pub Fails : {X : Type 0} → WordFault → Result X PlainKind → Type 0
-Fails faults.NoMemory read = Unit {0}
-Fails (faults.Is kind) read = read ≡ Err kind
-
-abbrev pub Gives : {X : Type 0} → Result X WordFault → Result X PlainKind → Type 0
-Gives (Ok x) read = read ≡ Ok x
-Gives (Err fault) read = Fails fault read
 
 -- the number that these hexadecimal digits spell behind a number
 abbrev pub hex_from : ℕ → List ℕ → Option ℕ

@@ -1,11 +1,12 @@
 -- What a word of a line says: a field of a node or of a way.
-use Rattle.std.specs.Prelude.{ℕ, ℤ, pos, neg_ℤ, ◌≤ℤ◌, Bool, true, false, ◌||◌, List, [], ◌∷◌, length, Option, Some, None, Result, Ok, Err, ◌==◌, nat_le, nat_abs, is_some, IfSome, if◌then◌else◌}
+use Rattle.std.specs.Prelude.{ℕ, ℤ, Bool, true, false, ◌||◌, List, [], ◌∷◌, length, Option, Some, None, Result, Ok, Err, ◌==◌, nat_le, nat_abs, is_some, IfSome, if◌then◌else◌}
 use Rattle.std.specs.List.{list_all}
 use Rattle.gh_base.specs.declared.kinds.PlainKind.{PlainKind}
 use Rattle.gh_base.specs.declared.kinds.PlainKind.TheVariants.{Number, Tag, Place, Field}
 use Rattle.gh_base.specs.declared.map.OsmTag.{OsmTag}
 use Rattle.gh_base.specs.Decimals.{id_of, decimal_of}
 use Rattle.gh_base.specs.Parts.{parts_of}
+use Rattle.gh_base.specs.Places.{most_lat, most_lon, IsWithin}
 use Rattle.plain_map.specs.declared.fields.NodeSoFar.{NodeSoFar}
 use Rattle.plain_map.specs.declared.fields.WaySoFar.{WaySoFar}
 use Rattle.plain_map.specs.Escapes.{◌>>=◌, text_at}
@@ -83,12 +84,12 @@ is_skipped (b ∷ bytes) = b == 118 || b == 100 || b == 99 || b == 116 || b == 1
 -- a latitude, where the letter was its own, else what the other letters say
 abbrev pub lat_with : NodeSoFar → Option (List ℕ) → Result NodeSoFar PlainKind → Result NodeSoFar PlainKind
 lat_with s None other = other
-lat_with s (Some bytes) other = if is_some s.lat then Err Field else (coordinate_at 900000000 bytes >>= λ z. Ok (record { lat = Some z; lon = s.lon; tagged = s.tagged }))
+lat_with s (Some bytes) other = if is_some s.lat then Err Field else (coordinate_at most_lat bytes >>= λ z. Ok (record { lat = Some z; lon = s.lon; tagged = s.tagged }))
 
 -- a longitude, alike
 abbrev pub lon_with : NodeSoFar → Option (List ℕ) → Result NodeSoFar PlainKind → Result NodeSoFar PlainKind
 lon_with s None other = other
-lon_with s (Some bytes) other = if is_some s.lon then Err Field else (coordinate_at 1800000000 bytes >>= λ z. Ok (record { lat = s.lat; lon = Some z; tagged = s.tagged }))
+lon_with s (Some bytes) other = if is_some s.lon then Err Field else (coordinate_at most_lon bytes >>= λ z. Ok (record { lat = s.lat; lon = Some z; tagged = s.tagged }))
 
 -- tags of a node, which are read and dropped
 abbrev pub node_tags_with : NodeSoFar → Option (List ℕ) → Result NodeSoFar PlainKind → Result NodeSoFar PlainKind
@@ -115,11 +116,7 @@ refs_with s (Some bytes) other = if is_some s.refs then Err Field else (refs_at 
 unfoldable pub way_with : WaySoFar → List ℕ → Result WaySoFar PlainKind
 way_with s word = tags_with s (behind 84 word) (refs_with s (behind 78 word) (if is_skipped word then Ok s else Err Field))
 
--- at most so far from 0, on both sides
-abbrev pub IsWithin : ℕ → ℤ → Type 0
-IsWithin most z = (neg_ℤ (pos most) ≤ℤ z) × (z ≤ℤ pos most)
-
 -- each coordinate that was read so far is one of the earth's
 pub record IsInRange (s : NodeSoFar) : Type 0 where
-  pub lat : IfSome s.lat (IsWithin 900000000)
-  pub lon : IfSome s.lon (IsWithin 1800000000)
+  pub lat : IfSome s.lat (IsWithin most_lat)
+  pub lon : IfSome s.lon (IsWithin most_lon)

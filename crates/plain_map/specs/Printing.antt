@@ -1,12 +1,12 @@
 -- The text of a map (after OPL, "OPL File Format Manual"), which is read as the same map again.
-use Rattle.std.specs.Prelude.{ℕ, suc, zero, ◌+◌, ◌/◌, ◌%◌, ◌^◌, ℤ, pos, negsuc, Bool, false, ◌||◌, List, [], ◌∷◌, ◌++◌, map, codes, ◌==◌, ◌<◌, nat_le, nat_abs, All, IsUtf8, if◌then◌else◌}
+use Rattle.std.specs.Prelude.{ℕ, suc, zero, ◌+◌, ◌/◌, ◌%◌, ◌^◌, ℤ, pos, negsuc, Bool, false, ◌||◌, List, [], ◌∷◌, ◌++◌, map, codes, ◌==◌, nat_le, All, if◌then◌else◌}
 use Rattle.std.specs.Fmt.{decimal, signed_decimal, digits}
 use Rattle.gh_base.specs.declared.map.Point.{Point}
 use Rattle.gh_base.specs.declared.map.OsmTag.{OsmTag}
 use Rattle.gh_base.specs.declared.map.OsmNode.{OsmNode}
 use Rattle.gh_base.specs.declared.map.OsmWay.{OsmWay}
 use Rattle.gh_base.specs.declared.map.OsmMap.{OsmMap}
-use Rattle.gh_base.specs.Places.{IsOnEarth}
+use Rattle.gh_base.specs.Maps.{IsFileNode, IsTextWay}
 
 -- the digits behind the dot, as many as it takes, of a number of so many places
 unfoldable pub places_text : ℕ → ℕ → List ℕ
@@ -67,25 +67,7 @@ lines_text (line ∷ lines) = line ++ 10 ∷ lines_text lines
 abbrev pub plain_text : OsmMap → List ℕ
 plain_text m = lines_text (map node_text m.nodes) ++ lines_text (map way_text m.ways)
 
--- an id of at most eighteen digits
-abbrev pub IsShort : ℤ → Type 0
-IsShort id = nat_abs id < 10 ^ 18
-
--- a tag of two texts
-pub record IsTextTag (tag : OsmTag) : Type 0 where
-  pub key : IsUtf8 tag.key
-  pub value : IsUtf8 tag.value
-
-pub record IsPrintableNode (node : OsmNode) : Type 0 where
-  pub id : IsShort node.id
-  pub place : IsOnEarth node.place
-
-pub record IsPrintableWay (way : OsmWay) : Type 0 where
-  pub id : IsShort way.id
-  pub tags : All IsTextTag way.tags
-  pub refs : All IsShort way.refs
-
 -- a map that its text can say
 pub record IsPrintable (m : OsmMap) : Type 0 where
-  pub nodes : All IsPrintableNode m.nodes
-  pub ways : All IsPrintableWay m.ways
+  pub nodes : All IsFileNode m.nodes
+  pub ways : All IsTextWay m.ways

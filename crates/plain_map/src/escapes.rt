@@ -1,6 +1,7 @@
 //! Keys and values with their escapes read.
 ghost use Rattle.std.specs.Prelude.{◌≡◌, ◌≤◌, ◌++◌, length, OnOk, encode_utf8};
-ghost use Rattle.plain_map.specs.Escapes.{Gives, hex_from, scalar_at, text_at};
+ghost use Rattle.gh_base.specs.Readings.{Gives};
+ghost use Rattle.plain_map.specs.Escapes.{hex_from, scalar_at, text_at};
 
 use crate::fault::WordFault;
 use gh_base::{NoMemory, PlainKind, Text, first_part};

@@ -1,24 +1,9 @@
 //! Why a plain map is not read.
-ghost use Rattle.std.specs.Prelude.{◌≡◌};
-ghost use Rattle.plain_map.specs.declared.fault.WordFault.TheVariants.{NoMemory};
-
-use gh_base::PlainKind;
+use gh_base::{PartFault, PlainKind};
 use thiserror::Error;
 
 /// Why a word is not read.
-#[derive(Clone, Copy, Debug, PartialEq, Eq)]
-pub enum WordFault {
-    NoMemory,
-    Is(PlainKind),
-}
-
-impl From<gh_base::NoMemory> for WordFault {
-    ghost from_gives = { λ _ e. e ≡ NoMemory };
-
-    fn from(_: gh_base::NoMemory) -> WordFault {
-        WordFault::NoMemory
-    }
-}
+pub(crate) type WordFault = PartFault<PlainKind>;
 
 /// Why a line is not read.
 #[derive(Clone, Copy, Debug, PartialEq, Eq)]

@@ -2,19 +2,14 @@
 ghost use Rattle.std.specs.Prelude.{◌≡◌, ◌<◌, ◌≤◌, ◌^◌, ℕ, List, IfOk};
 ghost use Rattle.std.specs.Option.{option_map};
 ghost use Rattle.gh_base.specs.Parts.{parts_of};
-ghost use Rattle.plain_map.specs.Escapes.{Gives};
-ghost use Rattle.plain_map.specs.Fields.{behind, coordinate_at, ref_at, refs_of, refs_at, is_skipped, node_with, way_with, IsWithin, IsInRange};
+ghost use Rattle.gh_base.specs.Places.{IsWithin};
+ghost use Rattle.gh_base.specs.Readings.{Gives};
+ghost use Rattle.plain_map.specs.Fields.{behind, coordinate_at, ref_at, refs_of, refs_at, is_skipped, node_with, way_with, IsInRange};
 
 use crate::fault::WordFault;
 use crate::tags::tags;
-use gh_base::{IdList, PlainKind, TagList, first_part, read_decimal, read_id};
+use gh_base::{IdList, MOST_LAT, MOST_LON, PlainKind, TagList, first_part, read_decimal, read_id};
 use std::alloc::Global;
-
-/// The greatest latitude, in 1e-7 degree.
-const MOST_LAT: u32 = 900000000;
-
-/// The greatest longitude, in 1e-7 degree.
-const MOST_LON: u32 = 1800000000;
 
 /// How many places a coordinate may have.
 const COORDINATE_PLACES: u8 = 7;

@@ -3,7 +3,7 @@ ghost use Rattle.std.specs.Prelude.{◌≡◌, ℕ, List};
 ghost use Rattle.std.specs.Option.{option_map};
 ghost use Rattle.std.specs.List.{list_all};
 ghost use Rattle.gh_base.specs.Parts.{parts_of};
-ghost use Rattle.plain_map.specs.Escapes.{Gives};
+ghost use Rattle.gh_base.specs.Readings.{Gives};
 ghost use Rattle.plain_map.specs.Fields.{two_of, tag_at, tags_of, tags_at, is_pair};
 
 use crate::escapes::unescape;

@@ -2,9 +2,10 @@
 use Rattle.std.proofs.Common.{◌≡◌, ℕ, List, Some, None, slice_get, refl}
 use Rattle.std.proofs.lemmas.Option.{get_or_from_slice_get}
 use Rattle.model_eval.specs.declared.custom_model.CustomModel.{CustomModel}
+use Rattle.model_eval.specs.Models.{no_model}
 use Rattle.model_eval.specs.Slowing.{offender}
 use Rattle.weighting.specs.declared.profile.Profile.{Profile}
-use Rattle.route_sessions.specs.Sessions.{no_model, profile_at}
+use Rattle.weighting.specs.Profiles.{profile_at}
 
 -- it slows every profile
 pub nothing_offends : (profile : CustomModel) → offender profile no_model ≡ None

@@ -1,23 +1,18 @@
 -- Rules of queries: a profile and a model that only slows it (GraphHopper documentation, "Custom models").
-use Rattle.std.specs.Prelude.{◌≡◌, ◌<◌, ℕ, List, [], ◌∷◌, length, slice_index_or, Option, Some, None, Result, Ok, Err}
+use Rattle.std.specs.Prelude.{◌≡◌, ◌<◌, ℕ, List, [], ◌∷◌, length, Option, Some, None, Result, Ok, Err}
 use Rattle.gh_base.specs.declared.kinds.JsonKind.{JsonKind}
 use Rattle.gh_base.specs.declared.kinds.ModelKind.{ModelKind}
 use Rattle.gh_base.specs.declared.kinds.Place3.{Place3}
-use Rattle.gh_base.specs.declared.query.Vehicle.TheVariants.{Car}
 use Rattle.exact_json.specs.declared.value.Json.{Json}
 use Rattle.exact_json.specs.Values.{reads}
 use Rattle.model_eval.specs.declared.custom_model.CustomModel.{CustomModel}
+use Rattle.model_eval.specs.Models.{no_model}
 use Rattle.model_eval.specs.Slowing.{Offence, offender}
 use Rattle.model_parser.specs.ModelText.{model_of}
 use Rattle.weighting.specs.declared.profile.Profile.{Profile}
+use Rattle.weighting.specs.Profiles.{profile_at}
 use Rattle.route_sessions.specs.declared.session.ModelReply.{ModelReply}
 use Rattle.route_sessions.specs.declared.session.ModelReply.TheVariants as reply
-use Rattle.route_sessions.specs.declared.session.RuleFault.{RuleFault}
-use Rattle.route_sessions.specs.declared.session.RuleFault.TheVariants as faults
-
--- the model without a statement
-abbrev pub no_model : CustomModel
-no_model = record { speed = []; priority = []; distance_influence = None; areas = [] }
 
 -- a model without an offender
 abbrev pub slow : CustomModel → Option Offence → Result CustomModel ModelReply
@@ -39,15 +34,6 @@ unfoldable pub rule_of : CustomModel → List ℕ → Result CustomModel ModelRe
 rule_of profile [] = Ok no_model
 rule_of profile (b ∷ text) = as_json profile (reads (b ∷ text))
 
--- what a function returned is what a text is, unless memory ran out
-abbrev pub Fails : RuleFault → Result CustomModel ModelReply → Type 0
-Fails faults.NoMemory rule = Unit {0}
-Fails (faults.Is why) rule = rule ≡ Err why
-
-abbrev pub Gives : Result CustomModel RuleFault → Result CustomModel ModelReply → Type 0
-Gives (Ok model) rule = rule ≡ Ok model
-Gives (Err fault) rule = Fails fault rule
-
 -- a rule: a profile, by its number, and a model that slows it
 pub record InForce : Type 0 where
   pub profile : ℕ
@@ -56,10 +42,6 @@ pub record InForce : Type 0 where
 -- a session begins with the first profile, and no statement
 abbrev pub first_rule : InForce
 first_rule = record { profile = 0; model = no_model }
-
--- the profile of a number, and nothing past the last
-abbrev pub profile_at : List Profile → ℕ → Profile
-profile_at profiles n = slice_index_or profiles n (record { name = []; vehicle = Car; model = no_model })
 
 -- a text that is a model is taken
 abbrev pub reply_by : Result CustomModel ModelReply → ModelReply

@@ -1,10 +1,12 @@
 //! The rule in force for an actor.
 ghost use Rattle.std.specs.Prelude.{◌≡◌, ◌<◌, ◌^◌, length, None, IfOk, OnOk, OnErr};
+ghost use Rattle.gh_base.specs.Readings.{Gives};
 ghost use Rattle.model_eval.specs.Slowing.{offender};
+ghost use Rattle.weighting.specs.Profiles.{profile_at};
 ghost use Rattle.route_sessions.specs.Sessions as spec;
 
 use exact_json::{JsonFault, JsonKind, read};
-use gh_base::{ModelKind, NoMemory, Place3};
+use gh_base::{ModelKind, NoMemory, PartFault, Place3};
 use model_check::{Speeding, check, plain};
 use model_eval::{CustomModel, SlowModel};
 use model_parser::{ModelFault, parse_model};
@@ -26,11 +28,7 @@ pub enum ModelReply {
 }
 
 /// Why a text is no rule.
-#[derive(Clone, Copy, Debug, PartialEq, Eq)]
-pub enum RuleFault {
-    NoMemory,
-    Is(ModelReply),
-}
+type RuleFault = PartFault<ModelReply>;
 
 /// The rule in force for an actor. Contracts see the profile, by its number, and the model, which only slows it.
 #[derive(Debug, Drop)]
@@ -54,7 +52,7 @@ impl Model for Session {
 #[tactic(auto, using(crate::proofs::Plain::at_number))]
 fn model_of(profiles: &Profiles, profile: u32) -> &CustomModel
     requires { profile < length profiles.now }
-    ensures { result.now ≡ (spec.profile_at profiles.now profile).model }
+    ensures { result.now ≡ (profile_at profiles.now profile).model }
 {
     &profiles.get(profile as usize).model
 }
@@ -63,7 +61,7 @@ fn model_of(profiles: &Profiles, profile: u32) -> &CustomModel
 #[tactic(auto, using(crate::proofs::Plain::nothing_offends), unfolding(crate::specs::Sessions::rule_of))]
 fn rule(alloc: Global, profile: &CustomModel, text: &[u8]) -> Result<SlowModel, RuleFault>
     requires { length text.now < 2 ^ 32 }
-    ensures value { spec.Gives result (spec.rule_of profile.now text.now) }
+    ensures value { Gives result (spec.rule_of profile.now text.now) }
     ensures slow { IfOk result (λ model. offender profile.now model ≡ None) }
 {
     if text.is_empty() {

@@ -15,7 +15,8 @@ use Rattle.script_text.specs.declared.script.Script.{Script}
 use Rattle.script_text.specs.declared.script.Command.{Command}
 use Rattle.script_text.specs.declared.script.Command.TheVariants as command
 use Rattle.script_service.specs.Answering.{Answered, joined, own_of, is_accepted}
-use Rattle.script_service.specs.Replying.{IsRightAfter, IsLeft, IsHeldAfter, last_settling, along}
+use Rattle.traffic_core.specs.Trips.{along}
+use Rattle.script_service.specs.Replying.{IsRightAfter, IsLeft, IsHeldAfter, last_settling}
 use Rattle.script_service.specs.Fitting.{SeesOwn, SeesInOrder, Begins}
 use Rattle.script_service.specs.Writing.{Fits, lines_text, journal_text}
 use Rattle.script_service.proofs.ListsAndPairs.{pairs_before, pairs_joined, cut_at}
@@ -92,7 +93,7 @@ module _ (preparations_are_one : PreparationsAreOne) where
         | inr inside ↦ front k inside
         | inl last ↦
             let is : k ≡ suc n = omega arith in
-            let d : Entry = get_or one n (record { actor = 0; number = 0; what = what.Lower (along 0 false) 0 }) in
+            let d : Entry = get_or one n (record { actor = 0; number = 0; what = what.Lower (along (record { 0 = 0 }) false) 0 }) in
             let entry = same_entry land script.capacity one two own x n d front before given.3 given.2 (a.right cut.front cut.back x cut.is) (b.right cut.front cut.back x cut.is) in
             rw is (take-suc one n d (omega arith) ∙ ap (λ (l : List Entry). l ++ get_or one n d ∷ []) (front n (omega arith)) ∙ ap (λ (e : Entry). take n two ++ e ∷ []) entry ∙ sym (take-suc two n d (omega arith)))
       ]

@@ -20,7 +20,8 @@ use Rattle.route_sessions.specs.declared.session.ModelReply.TheVariants as taken
 use Rattle.route_sessions.specs.Sessions.{reply_to}
 use Rattle.traffic_share.specs.Seats.{StartsWith}
 use Rattle.script_service.specs.Answering.{Answered, own_of, is_accepted}
-use Rattle.script_service.specs.Replying.{reply_of, reply_of_model, along, IsEntry, IsHeld, SaysLower, SaysRestore, SaysPrepare, SaysPublish, IsRightTo, IsRightAfter}
+use Rattle.traffic_core.specs.Trips.{along}
+use Rattle.script_service.specs.Replying.{reply_of, reply_of_model, IsEntry, IsHeld, SaysLower, SaysRestore, SaysPrepare, SaysPublish, IsRightTo, IsRightAfter}
 use Rattle.script_service.specs.Going.{AreRight}
 use Rattle.script_service.proofs.ListsAndPairs.{slice_get_append}
 use Rattle.script_service.proofs.HeldPreparations.{front_is, held_later}
@@ -68,8 +69,8 @@ right_to_later : (land : Land) (capacity : ℕ) (journal longer : List Entry) (o
     All (λ (b : Answered). b.at ≤ length journal) own → a.at ≤ length journal → IsRightTo land capacity journal own a c → IsRightTo land capacity longer own a c
 right_to_later land capacity journal longer own a (command.Model profile text) starts past within is = is
 right_to_later land capacity journal longer own a (command.Route start target labels) starts past within is = rw (front_is journal longer a.at starts within) is
-right_to_later land capacity journal longer own a (command.Lower edge reverse speed) starts past within is = lower_later land capacity journal longer a (along edge reverse) speed a.reply starts within is
-right_to_later land capacity journal longer own a (command.Restore edge reverse speed) starts past within is = restore_later land capacity journal longer a (along edge reverse) speed a.reply starts within is
+right_to_later land capacity journal longer own a (command.Lower edge reverse speed) starts past within is = lower_later land capacity journal longer a (along (record { 0 = edge }) reverse) speed a.reply starts within is
+right_to_later land capacity journal longer own a (command.Restore edge reverse speed) starts past within is = restore_later land capacity journal longer a (along (record { 0 = edge }) reverse) speed a.reply starts within is
 right_to_later land capacity journal longer own a (command.Prepare profile count) starts past within is = prepare_later land capacity journal longer a profile count a.reply starts within is
 right_to_later land capacity journal longer own a (command.Publish profile) starts past within is = record {
   held = is.held;
@@ -127,8 +128,8 @@ right_from land capacity journal past (a ∷ xs) each = (
 
 -- which change the entry of an accepted reply is
 abbrev pub IsChange : Land → List Entry → List Answered → Command → What → Type 0
-IsChange land journal own (command.Lower edge reverse speed) change = change ≡ what.Lower (along edge reverse) speed
-IsChange land journal own (command.Restore edge reverse speed) change = change ≡ what.Restore (along edge reverse) speed
+IsChange land journal own (command.Lower edge reverse speed) change = change ≡ what.Lower (along (record { 0 = edge }) reverse) speed
+IsChange land journal own (command.Restore edge reverse speed) change = change ≡ what.Restore (along (record { 0 = edge }) reverse) speed
 IsChange land journal own (command.Publish profile) change = (prep : Preparation) × IsHeld land journal profile own (Some prep) × (change ≡ what.Publish prep)
 IsChange land journal own other change = ⊥
 
@@ -195,9 +196,9 @@ entry_to land capacity journal own a (command.Model profile text) is took =
     absurd (refused a.reply (reply_of_model (reply_to land.profiles profile text)) is (model_refused (reply_to land.profiles profile text)) took)
 entry_to land capacity journal own a (command.Route start target labels) is took = absurd (refused a.reply (reply_of is.route.answer) is.route.printed (route_refused is.route.answer) took)
 entry_to land capacity journal own a (command.Lower edge reverse speed) is took =
-    (what.Lower (along edge reverse) speed, lower_entry land capacity journal a (along edge reverse) speed a.reply is took, refl)
+    (what.Lower (along (record { 0 = edge }) reverse) speed, lower_entry land capacity journal a (along (record { 0 = edge }) reverse) speed a.reply is took, refl)
 entry_to land capacity journal own a (command.Restore edge reverse speed) is took =
-    (what.Restore (along edge reverse) speed, restore_entry land capacity journal a (along edge reverse) speed a.reply is took, refl)
+    (what.Restore (along (record { 0 = edge }) reverse) speed, restore_entry land capacity journal a (along (record { 0 = edge }) reverse) speed a.reply is took, refl)
 entry_to land capacity journal own a (command.Prepare profile count) is took = absurd (prepare_refused land capacity journal a profile count a.reply is took)
 entry_to land capacity journal own a (command.Publish profile) is took = publish_entry land capacity journal own a profile is.held a.reply is.held_is is.says took
 

@@ -13,6 +13,7 @@ use Rattle.traffic_core.specs.declared.entry.What.TheVariants as what
 use Rattle.traffic_core.specs.Lands.{Land}
 use Rattle.traffic_core.specs.Answers.{Asked, IsRightAnswer}
 use Rattle.traffic_core.specs.History.{limit_after, Covers, IsFirstBelow, IsGuide, limit_in}
+use Rattle.traffic_core.specs.Trips.{along}
 use Rattle.traffic_core.specs.Truth.{IsPrepAt, IsNoPrepAt}
 use Rattle.script_text.specs.declared.script.Command.{Command}
 use Rattle.script_text.specs.declared.script.Command.TheVariants as command
@@ -54,10 +55,6 @@ pub record IsRightQuery (land : Land) (h : List Entry) (asks : Asked) (said : Re
   pub guide : Option Preparation
   pub guide_is : IsGuide land.graph h asks.profile guide
   pub route : IsRightRoute land (limit_after land.graph h) guide asks said
-
--- an edge by number, in a direction
-abbrev pub along : ℕ → Bool → DirEdge
-along edge reverse = record { edge = record { 0 = edge }; reverse = reverse }
 
 -- the first entries of the journal that a reply speaks of, and those before its own
 abbrev pub seen_by : List Entry → Answered → List Entry
@@ -152,8 +149,8 @@ abbrev pub IsRightTo : Land → ℕ → List Entry → List Answered → Answere
 IsRightTo land capacity journal own a (command.Model profile text) = a.reply ≡ reply_of_model (reply_to land.profiles profile text)
 IsRightTo land capacity journal own a (command.Route start target labels) =
     IsRightQuery land (seen_by journal a) (asks_under (rule_after land.profiles own) start target labels) a.reply
-IsRightTo land capacity journal own a (command.Lower edge reverse speed) = SaysLower land capacity journal a (along edge reverse) speed a.reply
-IsRightTo land capacity journal own a (command.Restore edge reverse speed) = SaysRestore land capacity journal a (along edge reverse) speed a.reply
+IsRightTo land capacity journal own a (command.Lower edge reverse speed) = SaysLower land capacity journal a (along (record { 0 = edge }) reverse) speed a.reply
+IsRightTo land capacity journal own a (command.Restore edge reverse speed) = SaysRestore land capacity journal a (along (record { 0 = edge }) reverse) speed a.reply
 IsRightTo land capacity journal own a (command.Prepare profile count) = SaysPrepare land capacity journal a profile count a.reply
 IsRightTo land capacity journal own a (command.Publish profile) = IsRightPublish land capacity journal own a profile
 

@@ -1,7 +1,7 @@
 //! The answer to one command of an actor.
 ghost use Rattle.std.specs.Prelude.{◌≡◌, ◌<◌, ◌≤◌, length, IfOk};
 ghost use Rattle.script_text.specs.Scripts.{IsCommand};
-ghost use Rattle.traffic_core.specs.Places.{IsPlace};
+ghost use Rattle.gh_base.specs.Places.{IsPlace};
 ghost use Rattle.route_sessions.specs.Sessions.{IsInForce};
 ghost use Rattle.traffic_share.specs.Seats.{StartsWith};
 ghost use Rattle.script_service.specs.Replying.{IsRightQuery, asks_under};

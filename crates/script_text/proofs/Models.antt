@@ -1,15 +1,11 @@
--- The model without a statement, and the profile that has it.
+-- The profile that stands where none is declared.
 use Rattle.std.proofs.Common.{[], refl, arith}
 use Rattle.std.specs.Prelude.{None, IsTrue, codes}
 use Rattle.std.proofs.lemmas.List.Elements.{All-push, All-nil}
-use Rattle.model_eval.specs.Models.{IsModel}
-use Rattle.model_check.proofs.Offenders.{nothing_is_model}
-use Rattle.script_text.specs.Commands.{no_model, with_default}
+use Rattle.model_eval.proofs.NoStatement.{nothing_is_model}
+use Rattle.script_text.specs.Commands.{with_default}
 use Rattle.script_text.specs.Names.{is_name}
 use Rattle.script_text.specs.Scripts.{IsProfile, AreProfiles}
-
-pub no_model_is_model : IsModel no_model
-no_model_is_model = nothing_is_model None
 
 car_is_name : IsTrue (is_name (codes "car"))
 unfolding is_name
@@ -19,6 +15,6 @@ car_is_name = refl
 pub default_profile : AreProfiles (with_default [])
 default_profile = record {
   few = omega arith;
-  each = All-push IsProfile [] _ (All-nil IsProfile) (record { name = car_is_name; model = no_model_is_model });
+  each = All-push IsProfile [] _ (All-nil IsProfile) (record { name = car_is_name; model = nothing_is_model None });
   different = λ i j d lt below. absurd (omega arith);
 }

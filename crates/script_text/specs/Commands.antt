@@ -3,9 +3,8 @@ use Rattle.std.specs.Prelude.{ℕ, Bool, true, false, List, [], ◌∷◌, Optio
 use Rattle.std.specs.Str.{bytes_eq}
 use Rattle.gh_base.specs.declared.kinds.ScriptKind.TheVariants as kind
 use Rattle.gh_base.specs.declared.query.Place.{Place}
-use Rattle.gh_base.specs.declared.query.Vehicle.TheVariants.{Car}
-use Rattle.model_eval.specs.declared.custom_model.CustomModel.{CustomModel}
 use Rattle.weighting.specs.declared.profile.Profile.{Profile}
+use Rattle.weighting.specs.Profiles.{car_profile}
 use Rattle.script_text.specs.declared.script.Command.{Command}
 use Rattle.script_text.specs.declared.script.Command.TheVariants as command
 use Rattle.script_text.specs.declared.commands.Verb.{Verb}
@@ -14,13 +13,9 @@ use Rattle.script_text.specs.Fields.{place_of, edge_of, speed_of, count_of}
 use Rattle.script_text.specs.LineReading.{◌>>=◌, ◌>>◌, Reader, pure, fault, known, next, word_as, last, rest}
 use Rattle.script_text.specs.Names.{is_name}
 
--- the model without a statement
-abbrev pub no_model : CustomModel
-no_model = record { speed = []; priority = []; distance_influence = None; areas = [] }
-
 -- where no line declares one there is one profile, of cars, whose model has no statement
 abbrev pub with_default : List Profile → List Profile
-with_default [] = record { name = codes "car"; vehicle = Car; model = no_model } ∷ []
+with_default [] = car_profile ∷ []
 with_default (profile ∷ profiles) = profile ∷ profiles
 
 -- the number of the profile of a name

@@ -1,11 +1,12 @@
 -- What the words of a command stand for: places, edges, speeds, numbers.
-use Rattle.std.specs.Prelude.{ℕ, ◌+◌, ◌-◌, ℤ, pos, negsuc, neg_ℤ, ◌≤ℤ◌, Bool, true, false, ◌&&◌, List, [], ◌∷◌, length, take, drop, Option, Some, None, ◌==◌, nat_le, nat_abs, codes, if◌then◌else◌}
+use Rattle.std.specs.Prelude.{ℕ, ◌+◌, ◌-◌, ℤ, pos, negsuc, Bool, true, false, ◌&&◌, List, [], ◌∷◌, length, take, drop, Option, Some, None, ◌==◌, nat_le, nat_abs, codes, if◌then◌else◌}
 use Rattle.std.specs.Str.{bytes_eq}
 use Rattle.gh_base.specs.declared.map.Point.{Point}
 use Rattle.gh_base.specs.declared.query.Place.{Place}
 use Rattle.gh_base.specs.declared.query.Place.TheVariants.{Id, At}
 use Rattle.gh_base.specs.Decimals.{◌>>=◌, natural_of, id_of, decimal_of}
 use Rattle.gh_base.specs.Parts.{parts_of}
+use Rattle.gh_base.specs.Places.{most_lat, most_lon}
 
 -- what follows a letter at the front
 abbrev pub behind : ℕ → List ℕ → Option (List ℕ)
@@ -18,17 +19,13 @@ coordinate_of most word = do
   z ← decimal_of 7 word
   if nat_le (nat_abs z) most then Some z else None
 
--- at most so far from 0, on both sides
-abbrev pub IsWithin : ℕ → ℤ → Type 0
-IsWithin most z = (neg_ℤ (pos most) ≤ℤ z) × (z ≤ℤ pos most)
-
 -- latitude, comma, longitude
 abbrev pub point_of : List (List ℕ) → Option Place
 point_of [] = None
 point_of (lat ∷ []) = None
 point_of (lat ∷ lon ∷ []) = do
-  y ← coordinate_of 900000000 lat
-  x ← coordinate_of 1800000000 lon
+  y ← coordinate_of most_lat lat
+  x ← coordinate_of most_lon lon
   Some (At (record { lat = y; lon = x }))
 point_of (lat ∷ lon ∷ more ∷ parts) = None
 

@@ -7,7 +7,8 @@ use Rattle.gh_base.specs.declared.query.Vehicle.{Vehicle}
 use Rattle.gh_base.specs.declared.query.Vehicle.TheVariants.{Car, Bike, Foot}
 use Rattle.model_eval.specs.declared.custom_model.CustomModel.{CustomModel}
 use Rattle.weighting.specs.declared.profile.Profile.{Profile}
-use Rattle.script_text.specs.Commands.{place_in, name, count, no_model}
+use Rattle.model_eval.specs.Models.{no_model}
+use Rattle.script_text.specs.Commands.{place_in, name, count}
 use Rattle.script_text.specs.LineReading.{◌>>=◌, ◌>>◌, Reader, pure, fault, known, next, word_as, last, rest}
 use Rattle.script_text.specs.ModelTexts.{model_at}
 

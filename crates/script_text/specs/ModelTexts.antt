@@ -1,5 +1,5 @@
 -- A model as the text of JSON that a line ends with.
-use Rattle.std.specs.Prelude.{◌≡◌, ℕ, List, Result, Ok, Err}
+use Rattle.std.specs.Prelude.{ℕ, List, Result, Ok, Err}
 use Rattle.gh_base.specs.declared.kinds.JsonKind.{JsonKind}
 use Rattle.gh_base.specs.declared.kinds.ModelKind.{ModelKind}
 use Rattle.gh_base.specs.declared.kinds.Place3.{Place3}
@@ -9,8 +9,6 @@ use Rattle.exact_json.specs.declared.value.Json.{Json}
 use Rattle.exact_json.specs.Values.{reads}
 use Rattle.model_eval.specs.declared.custom_model.CustomModel.{CustomModel}
 use Rattle.model_parser.specs.ModelText.{model_of}
-use Rattle.script_text.specs.declared.model_text.TextFault.{TextFault}
-use Rattle.script_text.specs.declared.model_text.TextFault.TheVariants as faults
 
 abbrev pub as_model : Result CustomModel (Place3 × ModelKind) → Result CustomModel ScriptKind
 as_model (Ok model) = Ok model
@@ -23,12 +21,3 @@ as_json (Err fault) = Err kind.Json
 -- the model that a text is
 unfoldable pub model_at : List ℕ → Result CustomModel ScriptKind
 model_at text = as_json (reads text)
-
--- what a function returned is what a text is, unless memory ran out
-abbrev pub Fails : TextFault → Result CustomModel ScriptKind → Type 0
-Fails faults.NoMemory read = Unit {0}
-Fails (faults.Is kind) read = read ≡ Err kind
-
-abbrev pub Gives : Result CustomModel TextFault → Result CustomModel ScriptKind → Type 0
-Gives (Ok model) read = read ≡ Ok model
-Gives (Err fault) read = Fails fault read

@@ -2,9 +2,7 @@
 use Rattle.std.specs.Prelude.{◌≡◌, ℕ, ◌+◌, ◌<◌, ◌≤◌, ◌^◌, Bool, true, false, List, [], ◌∷◌, ◌++◌, take, length, slice_index_or, All, IsTrue, ◌==◌, if◌then◌else◌}
 use Rattle.std.specs.List.{AllPairs}
 use Rattle.std.specs.Str.{bytes_eq}
-use Rattle.gh_base.specs.declared.query.Place.{Place}
-use Rattle.gh_base.specs.declared.query.Place.TheVariants as place
-use Rattle.gh_base.specs.Places.{IsOnEarth}
+use Rattle.gh_base.specs.Places.{IsPlace}
 use Rattle.model_eval.specs.Models.{IsModel}
 use Rattle.weighting.specs.declared.profile.Profile.{Profile}
 use Rattle.script_text.specs.declared.script.Command.{Command}
@@ -12,11 +10,6 @@ use Rattle.script_text.specs.declared.script.Command.TheVariants as command
 use Rattle.script_text.specs.declared.script.Line.{Line}
 use Rattle.script_text.specs.declared.script.Script.{Script}
 use Rattle.script_text.specs.Names.{is_name}
-
--- a point is one of the earth's
-abbrev pub IsPlace : Place → Type 0
-IsPlace (place.Id id) = Unit {0}
-IsPlace (place.At point) = IsOnEarth point
 
 -- a command where there are so many profiles
 abbrev pub IsCommand : ℕ → Command → Type 0

@@ -4,7 +4,8 @@ ghost use Rattle.std.specs.Str.{bytes_eq};
 ghost use Rattle.script_text.specs.Commands as spec;
 ghost use Rattle.script_text.specs.LineReading.{Reads, Stops};
 ghost use Rattle.script_text.specs.Names.{is_name};
-ghost use Rattle.script_text.specs.Scripts.{IsCommand, IsPlace};
+ghost use Rattle.gh_base.specs.Places.{IsPlace};
+ghost use Rattle.script_text.specs.Scripts.{IsCommand};
 
 use crate::fault::LineFault;
 use crate::fields;
@@ -13,10 +14,7 @@ use crate::names::is_name;
 use crate::script::Command;
 use gh_base::{Place, ScriptKind, Text};
 use std::alloc::Global;
-use weighting::Profile;
-
-/// The name of the profile that there is where no line declares one.
-pub(crate) const DEFAULT_PROFILE: &str = "car";
+use weighting::{CAR_PROFILE, Profile};
 
 /// The most landmarks of a preparation.
 const MOST_LANDMARKS: u32 = 16;
@@ -68,7 +66,7 @@ fn profile_place(profiles: &[Profile], name: &str) -> Option<u32>
     ensures range { IfSome result (λ n. n < length (spec.with_default profiles.now)) }
 {
     if profiles.is_empty() {
-        if DEFAULT_PROFILE == name {
+        if CAR_PROFILE == name {
             return Some(0);
         }
         return None;

@@ -2,16 +2,10 @@
 ghost use Rattle.std.specs.Prelude.{◌≡◌, ◌≤◌, ◌<◌, ◌^◌, IfSome};
 ghost use Rattle.std.specs.Option.{option_map};
 ghost use Rattle.gh_base.specs.Parts.{parts_of};
+ghost use Rattle.gh_base.specs.Places.{IsPlace, IsWithin};
 ghost use Rattle.script_text.specs.Fields as spec;
-ghost use Rattle.script_text.specs.Scripts.{IsPlace};
 
-use gh_base::{Place, Point, first_bytes, read_decimal, read_id, read_natural};
-
-/// The greatest latitude, in 1e-7 degree.
-const MOST_LAT: u32 = 900000000;
-
-/// The greatest longitude, in 1e-7 degree.
-const MOST_LON: u32 = 1800000000;
+use gh_base::{MOST_LAT, MOST_LON, Place, Point, first_bytes, read_decimal, read_id, read_natural};
 
 /// How many places a coordinate may have.
 const COORDINATE_PLACES: u8 = 7;
@@ -38,7 +32,7 @@ fn behind(bytes: &[u8], letter: u8) -> Option<&[u8]>
 fn coordinate(word: &[u8], most: u32) -> Option<i32>
     requires { most < 2 ^ 31 }
     ensures value { result ≡ spec.coordinate_of most word.now }
-    ensures range { IfSome result (spec.IsWithin most) }
+    ensures range { IfSome result (IsWithin most) }
 {
     let z = read_decimal(word, COORDINATE_PLACES).ok()?;
     if z.unsigned_abs() <= u64::from(most) {

@@ -3,7 +3,7 @@ ghost use Rattle.std.specs.Prelude.{◌≡◌, ◌≤◌, ◌<◌, ◌^◌, leng
 ghost use Rattle.std.specs.Str.{bytes_eq};
 ghost use Rattle.std.specs.Option.{option_map};
 ghost use Rattle.model_eval.specs.Models.{IsModel};
-ghost use Rattle.script_text.specs.Commands.{place_in, no_model};
+ghost use Rattle.script_text.specs.Commands.{place_in};
 ghost use Rattle.script_text.specs.Headers as spec;
 ghost use Rattle.script_text.specs.LineReading.{Reads, Stops};
 ghost use Rattle.script_text.specs.Names.{is_name};
@@ -13,8 +13,8 @@ use crate::commands::{count, declared_place, name};
 use crate::fault::LineFault;
 use crate::line_words::LineWords;
 use crate::model_text::{TextFault, model_in};
-use gh_base::{ScriptKind, Sequence, Text, Vehicle};
-use model_eval::CustomModel;
+use gh_base::{ScriptKind, Text, Vehicle};
+use model_eval::{CustomModel, no_model};
 use std::alloc::Global;
 use weighting::Profile;
 
@@ -32,20 +32,6 @@ pub(crate) fn actor_place(actors: &[Text], name: &str) -> Option<usize>
     ensures { result ≡ spec.actor_in actors.now name.now }
 {
     actors.iter().position(|actor| is_same(actor, name))
-}
-
-/// The model without a statement.
-#[tactic(auto, using(crate::proofs::Models::no_model_is_model))]
-pub(crate) fn no_model(alloc: Global) -> CustomModel
-    ensures value { result ≡ no_model }
-    ensures model { IsModel result }
-{
-    CustomModel {
-        speed: Sequence::new(alloc),
-        priority: Sequence::new(alloc),
-        distance_influence: None,
-        areas: Sequence::new(alloc),
-    }
 }
 
 fn vehicle_of(word: &str) -> Option<Vehicle>

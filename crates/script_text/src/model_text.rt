@@ -1,20 +1,17 @@
 //! A profile's model.
 ghost use Rattle.std.specs.Prelude.{◌≡◌, ◌<◌, ◌^◌, length, Ok, Err, IfOk, IfErr, None, MatchResult, [], ℕ};
+ghost use Rattle.gh_base.specs.Readings.{Gives};
 ghost use Rattle.model_eval.specs.Models.{IsModel};
-ghost use Rattle.script_text.specs.ModelTexts.{model_at, Gives};
+ghost use Rattle.script_text.specs.ModelTexts.{model_at};
 
 use exact_json::{JsonFault, read};
-use gh_base::ScriptKind;
+use gh_base::{PartFault, ScriptKind};
 use model_eval::CustomModel;
 use model_parser::{ModelFault, parse_model};
 use std::alloc::Global;
 
 /// Why a text is no model.
-#[derive(Clone, Copy, Debug, PartialEq, Eq)]
-pub enum TextFault {
-    NoMemory,
-    Is(ScriptKind),
-}
+pub(crate) type TextFault = PartFault<ScriptKind>;
 
 /// The model that a text is.
 #[tactic(auto, unfolding(crate::specs::ModelTexts::model_at))]

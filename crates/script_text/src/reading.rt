@@ -5,16 +5,14 @@ ghost use Rattle.script_text.specs.Grammar as spec;
 ghost use Rattle.script_text.specs.Scripts.{IsScript, AreProfiles};
 ghost use Rattle.script_text.specs.States.{IsSoFar, IsTally, IsSaid};
 
-use crate::commands::DEFAULT_PROFILE;
 use crate::fault::{LineFault, ScriptFault};
-use crate::headers::no_model;
 use crate::line::{Said, read_line};
 use crate::putting::put;
 use crate::script::{Names, Phase, Phases, Script, ScriptRead};
 use crate::so_far::{SoFar, Tally};
-use gh_base::{NoMemory, Text, Vehicle, first_bytes};
+use gh_base::{NoMemory, first_bytes};
 use std::alloc::Global;
-use weighting::{Profile, Profiles};
+use weighting::{Profiles, car_profile};
 
 /// The profiles that are declared, or the default.
 #[tactic(auto, using(crate::proofs::Models::default_profile))]
@@ -27,14 +25,8 @@ fn with_default(alloc: Global, profiles: Profiles) -> Result<Profiles, NoMemory>
     if !profiles.is_empty() {
         return Ok(profiles);
     }
-    let mut name = Text::new(alloc);
-    name.push(DEFAULT_PROFILE)?;
     let mut all = Profiles::new(alloc);
-    all.push(Profile {
-        name,
-        vehicle: Vehicle::Car,
-        model: no_model(alloc),
-    })?;
+    all.push(car_profile(alloc)?)?;
     Ok(all)
 }
 

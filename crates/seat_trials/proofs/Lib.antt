@@ -1,2 +1,1 @@
 pub mod LastTwo
-pub mod SentSeats

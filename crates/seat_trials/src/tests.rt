@@ -4,9 +4,8 @@ ghost use Rattle.std.specs.Prelude.{◌≡◌, ◌<◌, ℕ, length, All, IfOk, 
 ghost use Rattle.traffic_core.specs.contracts.ground.Ground.{the_row as ground};
 ghost use Rattle.traffic_share.specs.Seats.{Place};
 
-use gh_base::{NoMemory, Sequence, SureSource, Text, Vehicle};
+use gh_base::{NoMemory, SureSource};
 use map_import::import;
-use model_eval::CustomModel;
 use plain_map::read_plain;
 use std::alloc::Global;
 use std::marker::Brand;
@@ -16,7 +15,7 @@ use std::thread;
 use std::thread::Threads;
 use traffic_core::Ground;
 use traffic_share::{Log, Naming, Seat};
-use weighting::{Profile, Profiles};
+use weighting::{Profiles, car_profile};
 
 /// Nine towers in three rows and three columns, on twelve roads where cars go 60 km/h.
 const GRID: &str =
@@ -30,16 +29,7 @@ fn ground_of(alloc: Global, map: &str) -> Result<Ground, Fail>
     let map = read_plain(alloc, &mut source)?;
     let roads = import(alloc, &map)?;
     let mut profiles = Profiles::new(alloc);
-    profiles.push(Profile {
-        name: Text::new(alloc),
-        vehicle: Vehicle::Car,
-        model: CustomModel {
-            speed: Sequence::new(alloc),
-            priority: Sequence::new(alloc),
-            distance_influence: None,
-            areas: Sequence::new(alloc),
-        },
-    })?;
+    profiles.push(car_profile(alloc)?)?;
     Ok(Ground::new(alloc, roads, profiles)?)
 }
 

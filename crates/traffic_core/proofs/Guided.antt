@@ -20,7 +20,8 @@ use Rattle.landmark_prep.specs.Bounds.{AreFit, bound_of, labels_at, picked, pote
 use Rattle.landmark_prep.specs.Choosing.{AreActive}
 use Rattle.landmark_prep.specs.Laws.{PreparationsFit}
 use Rattle.traffic_core.specs.declared.spot.Spot.{Spot}
-use Rattle.traffic_core.specs.Lands.{Land, profile_at, rule_alone}
+use Rattle.weighting.specs.Profiles.{profile_at}
+use Rattle.traffic_core.specs.Lands.{Land, rule_alone}
 use Rattle.traffic_core.specs.History.{limit_in}
 use Rattle.traffic_core.specs.Trips.{Trip, trip_by, trip_network, trip_target, leave_from, reach_to, direct_between}
 use Rattle.traffic_core.specs.Truth.{IsTrueOver, IsBoundOf, representative, network_at}

@@ -12,7 +12,8 @@ use Rattle.location_grid.specs.declared.grid.OnEdge.{OnEdge}
 use Rattle.weighting.specs.declared.profile.Profile.{Profile}
 use Rattle.weighting.specs.Roads.{is_usable}
 use Rattle.traffic_core.specs.declared.spot.Spot.{Spot}
-use Rattle.traffic_core.specs.Lands.{Land, rule_alone, profile_at}
+use Rattle.weighting.specs.Profiles.{profile_at}
+use Rattle.traffic_core.specs.Lands.{Land, rule_alone}
 use Rattle.traffic_core.specs.Spots.{spot_along}
 use Rattle.traffic_core.specs.Places.{IsSnapOf, usable_in}
 use Rattle.traffic_core.specs.Grounds.{AreUsable, AreUsableBelow}

@@ -1,14 +1,18 @@
 -- What queries run over: roads, the id of each of their towers, and profiles.
-use Rattle.std.specs.Prelude.{◌≡◌, ℕ, ℤ, ◌<◌, List, [], length, All, Option, Some, None, IsSome, slice_get, slice_index_or}
+use Rattle.std.specs.Prelude.{◌≡◌, ℕ, ℤ, ◌<◌, List, length, All, Option, Some, None, Ok, IsSome, slice_get}
 use Rattle.std.specs.List.{IsDistinct}
 use Rattle.std.specs.Ordering.{int_eq}
+use Rattle.gh_base.specs.declared.map.OsmMap.{OsmMap}
 use Rattle.base_graph.specs.Graphs.{Graph, IsGraph, edge_at, points_of}
 use Rattle.map_import.specs.declared.roads.Roads.{Roads}
+use Rattle.map_import.specs.Roads.{place_in, points_along}
+use Rattle.map_import.specs.Refusals.{roads}
+use Rattle.map_import.specs.Building.{laid_as}
 use Rattle.geo_math.specs.Lengths.{line_length}
 use Rattle.model_eval.specs.Models.{IsModel}
-use Rattle.gh_base.specs.declared.query.Vehicle.TheVariants.{Car}
 use Rattle.model_eval.specs.declared.custom_model.CustomModel.{CustomModel}
 use Rattle.weighting.specs.declared.profile.Profile.{Profile}
+use Rattle.weighting.specs.Profiles.{profile_at}
 use Rattle.weighting.specs.Rules.{Rule}
 
 -- the roads, the OpenStreetMap id of each tower by number, and the profiles by number
@@ -34,14 +38,6 @@ pub record IsLand (land : Land) : Type 0 where
 abbrev pub IsTower : Land → ℤ → ℕ → Type 0
 IsTower land id node = slice_get land.ids node ≡ Some id
 
--- what stands where no profile does
-abbrev pub no_profile : Profile
-no_profile = record { name = []; vehicle = Car; model = record { speed = []; priority = []; distance_influence = None; areas = [] } }
-
--- a profile by number
-abbrev pub profile_at : List Profile → ℕ → Profile
-profile_at profiles n = slice_index_or profiles n no_profile
-
 -- a profile with a query's model
 abbrev pub rule_of : Land → ℕ → CustomModel → Rule
 rule_of land profile model = record {
@@ -66,3 +62,9 @@ IsNoTower land id = (node : ℕ) → IsTower land id node → ⊥
 pub record IsIndexOf (ids : List ℤ) (number_of : ℤ → Option ℕ) : Type 0 where
   pub found : (id : ℤ) (number : ℕ) → number_of id ≡ Some number → slice_get ids number ≡ Some id
   pub each : (id : ℤ) (number : ℕ) → slice_get ids number ≡ Some id → IsSome (number_of id)
+
+-- the roads of a map: its towers and edges, each tower at the place of its node
+pub record AreRoadsOf (map : OsmMap) (land : Land) : Type 0 where
+  pub graph : IsGraph land.graph
+  pub laid : roads map ≡ Ok (laid_as land.ids land.graph)
+  pub places : land.graph.places ≡ points_along (place_in map.nodes) land.ids

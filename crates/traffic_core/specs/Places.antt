@@ -3,13 +3,13 @@ use Rattle.std.specs.Prelude.{◌≡◌, ℕ, ℤ, ◌<◌, Bool, false, Option,
 use Rattle.gh_base.specs.declared.map.Point.{Point}
 use Rattle.gh_base.specs.declared.query.Place.{Place}
 use Rattle.gh_base.specs.declared.query.Place.TheVariants.{Id, At}
-use Rattle.gh_base.specs.Places.{IsOnEarth}
 use Rattle.location_grid.specs.Nearest.{IsNearest}
 use Rattle.location_grid.specs.declared.grid.OnEdge.{OnEdge}
 use Rattle.weighting.specs.Roads.{is_usable}
 use Rattle.traffic_core.specs.declared.spot.Spot.{Spot}
 use Rattle.traffic_core.specs.declared.spot.Spot.TheVariants.{Tower, Inside}
-use Rattle.traffic_core.specs.Lands.{Land, IsTower, IsNoTower, profile_at, rule_alone}
+use Rattle.weighting.specs.Profiles.{profile_at}
+use Rattle.traffic_core.specs.Lands.{Land, IsTower, IsNoTower, rule_alone}
 use Rattle.traffic_core.specs.Spots.{spot_along}
 
 -- where an id lies: at the tower that has it, and nowhere where none has
@@ -38,8 +38,3 @@ IsNowhere land profile place = IsSpot land profile place None
 
 abbrev pub IsSomewhere : Land → ℕ → Place → Type 0
 IsSomewhere land profile place = (spot : Spot) × IsSpot land profile place (Some spot)
-
--- a point of a query is one of the earth's
-abbrev pub IsPlace : Place → Type 0
-IsPlace (Id id) = Unit {0}
-IsPlace (At point) = IsOnEarth point

@@ -13,7 +13,8 @@ use Rattle.landmark_prep.specs.Choosing.{AreActive}
 use Rattle.traffic_core.specs.declared.entry.Entry.{Entry}
 use Rattle.traffic_core.specs.declared.spot.Spot.{Spot}
 use Rattle.traffic_core.specs.declared.spot.Spot.TheVariants.{Tower, Inside}
-use Rattle.traffic_core.specs.Lands.{Land, profile_at, rule_alone}
+use Rattle.weighting.specs.Profiles.{profile_at}
+use Rattle.traffic_core.specs.Lands.{Land, rule_alone}
 use Rattle.traffic_core.specs.History.{limit_in, limit_after, AreLimitsAfter}
 use Rattle.traffic_core.specs.Trips.{Trip}
 

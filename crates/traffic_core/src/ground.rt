@@ -2,11 +2,12 @@
 ghost use Rattle.std.specs.Prelude.{◌≡◌, ◌<◌, ◌^◌, ℤ, length, All, IfOk, IfSome, IfNone};
 ghost use Rattle.std.specs.List.{IsDistinct};
 ghost use Rattle.std.specs.Ordering.{int_eq};
-ghost use Rattle.gh_base.specs.Places.{IsOnEarth};
+ghost use Rattle.gh_base.specs.Places.{IsOnEarth, IsPlace};
 ghost use Rattle.model_eval.specs.Models.{IsModel};
 ghost use Rattle.weighting.specs.declared.profile.Profile.{Profile};
-ghost use Rattle.traffic_core.specs.Lands.{AreAsLong, IsTower, IsNoTower, profile_at};
-ghost use Rattle.traffic_core.specs.Places.{IsSpot, IsSnapOf, IsPlace};
+ghost use Rattle.weighting.specs.Profiles.{profile_at};
+ghost use Rattle.traffic_core.specs.Lands.{AreAsLong, IsTower, IsNoTower};
+ghost use Rattle.traffic_core.specs.Places.{IsSpot, IsSnapOf};
 ghost use Rattle.traffic_core.specs.Spots.{IsOn};
 
 use crate::spot::{Spot, spot_along};

@@ -2,7 +2,7 @@
 ghost use Rattle.std.specs.Prelude.{◌≡◌, ◌≤◌, None, length, IfSome, IfOk};
 ghost use Rattle.model_eval.specs.Models.{IsModel};
 ghost use Rattle.model_eval.specs.Slowing.{IsSlow};
-ghost use Rattle.traffic_core.specs.Places.{IsPlace};
+ghost use Rattle.gh_base.specs.Places.{IsPlace};
 
 use crate::{Ground, RouteQuery, route};
 use gh_base::{

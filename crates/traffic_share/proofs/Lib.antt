@@ -3,3 +3,4 @@ pub mod NotesOfCells
 pub mod EntriesFound
 pub mod CallsThatGoOn
 pub mod PreparationsAfter
+pub mod SentSeats

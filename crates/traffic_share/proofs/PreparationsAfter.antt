@@ -15,7 +15,8 @@ use Rattle.landmark_prep.specs.declared.making.Made.TheVariants.{Prep, NoLandmar
 use Rattle.landmark_prep.specs.Answers.{IfPrep, IsNoLandmark}
 use Rattle.landmark_prep.specs.Laws.{LandmarksAreTheCount}
 use Rattle.traffic_core.specs.declared.entry.Entry.{Entry}
-use Rattle.traffic_core.specs.Lands.{Land, profile_at, rule_alone}
+use Rattle.weighting.specs.Profiles.{profile_at}
+use Rattle.traffic_core.specs.Lands.{Land, rule_alone}
 use Rattle.traffic_core.specs.History.{limit_in, limit_after, AreLimitsAfter}
 use Rattle.traffic_core.specs.Standing.{State, Stands}
 use Rattle.traffic_core.specs.Truth.{network_at, IsPrepAt, IsNoPrepAt, IsTrueOver}

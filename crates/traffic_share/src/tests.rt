@@ -2,10 +2,9 @@
 ghost use Rattle.std.specs.Prelude.{◌≡◌, ◌<◌, length, IfOk};
 
 use crate::{Asked, Log, LowerReply, Naming, PublishReply, RestoreReply, Seat, TruePrep};
-use gh_base::{DirEdge, EdgeId, Limits, NoMemory, Sequence, SureSource, Text, Vehicle};
+use gh_base::{DirEdge, EdgeId, Limits, NoMemory, SureSource};
 use landmark_prep::Prep;
 use map_import::import;
-use model_eval::CustomModel;
 use plain_map::read_plain;
 use std::alloc::Global;
 use std::marker::Brand;
@@ -13,7 +12,7 @@ use std::process::Abort;
 use std::test::Fail;
 use std::thread::Threads;
 use traffic_core::{Ground, Query, RoadState};
-use weighting::{Profile, Profiles};
+use weighting::{Profiles, car_profile};
 
 /// Three towers in a row, on roads where cars go 60 km/h.
 const ROW: &str =
@@ -35,16 +34,7 @@ fn ground_of(alloc: Global, map: &str) -> Result<Ground, Fail>
     let map = read_plain(alloc, &mut source)?;
     let roads = import(alloc, &map)?;
     let mut profiles = Profiles::new(alloc);
-    profiles.push(Profile {
-        name: Text::new(alloc),
-        vehicle: Vehicle::Car,
-        model: CustomModel {
-            speed: Sequence::new(alloc),
-            priority: Sequence::new(alloc),
-            distance_influence: None,
-            areas: Sequence::new(alloc),
-        },
-    })?;
+    profiles.push(car_profile(alloc)?)?;
     Ok(Ground::new(alloc, roads, profiles)?)
 }
 

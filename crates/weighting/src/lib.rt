@@ -20,6 +20,6 @@ pub use laws::{
     values_are_stored_in_each_graph, weights_fit,
 };
 pub use opening::Opening;
-pub use profile::{Profile, Profiles};
+pub use profile::{CAR_PROFILE, Profile, Profiles, car_profile};
 pub use weight_view::{Side, WeightView};
 pub use weighting::Weighting;

@@ -1,6 +1,6 @@
 use Rattle.std.proofs.Common.{◌≡◌, arith, ap}
 use Rattle.std.proofs.lemmas.List.{nil_from_length}
-use Rattle.map_import.specs.Roads.{line_length}
+use Rattle.geo_math.specs.Lengths.{line_length}
 use Rattle.map_import.proofs.lines.line_mm.Goals as goal
 
 pub returns : goal.returns

@@ -1,6 +1,6 @@
 use Rattle.std.proofs.Common.{◌≡◌, ◌+◌, ◌-◌, ◌^◌, ◌<◌, min, length, All}
 use Rattle.gh_base.specs.Places.{IsOnEarth}
-use Rattle.map_import.specs.Roads.{line_length}
+use Rattle.geo_math.specs.Lengths.{line_length}
 use Rattle.map_import.proofs.lines.line_mm.Given as goal
 
 abbrev pub invariant-loop-left : goal.invariant-loop-left

@@ -1,5 +1,5 @@
 use Rattle.std.proofs.Common.{ℕ, refl}
-use Rattle.script_service.specs.Replying.{along}
+use Rattle.traffic_core.specs.Trips.{along}
 use Rattle.script_service.specs.SeatReplies.{told_of_lower, told_of_restore}
 use Rattle.script_service.proofs.SeatRows.{lower_said, lower_told, restore_said, restore_told}
 use Rattle.script_service.proofs.CommandFollows.{route_answered, told_follows}
@@ -15,7 +15,7 @@ returns-in_ok-reply-in-Lower-clause-follows g c =
     let before = c.args.seat.now in
     let after = c.lower.new.self in
     let line = c.args.line.now in
-    let by = along c.in-Lower.edge c.in-Lower.reverse in
+    let by = along (record { 0 = c.in-Lower.edge }) c.in-Lower.reverse in
     let reply = c.in_ok-reply-in-Lower.reply in
     told_follows g.J.Naming.land before after c.args.memory.now line _
     (lower_said g.J.Naming.land before after line by c.in-Lower.speed)
@@ -28,7 +28,7 @@ returns-in_ok-reply-in-Restore-clause-follows g c =
     let before = c.args.seat.now in
     let after = c.restore.new.self in
     let line = c.args.line.now in
-    let by = along c.in-Restore.edge c.in-Restore.reverse in
+    let by = along (record { 0 = c.in-Restore.edge }) c.in-Restore.reverse in
     let reply = c.in_ok-reply-in-Restore.reply in
     told_follows g.J.Naming.land before after c.args.memory.now line _
     (restore_said g.J.Naming.land before after line by c.in-Restore.speed)

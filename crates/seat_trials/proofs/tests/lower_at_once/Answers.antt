@@ -2,7 +2,7 @@ use denote.Param.{param}
 use denote.Param.Send.{IsSend, sendable}
 use denote.Ref.{NamedLft}
 use Rattle.traffic_share.specs.contracts.seat.Seat.{the_row as seat}
-use Rattle.seat_trials.proofs.SentSeats.{seat_sent}
+use Rattle.traffic_share.proofs.SentSeats.{seat_sent}
 use Rattle.seat_trials.proofs.tests.lower_at_once.Goals as goal
 
 pub for_each_mut-requires-send-T : goal.for_each_mut-requires-send-T

@@ -7,7 +7,8 @@ use Rattle.std.proofs.lemmas.List.Elements.{All-take, All-drop}
 use Rattle.gh_base.specs.Places.{IsOnEarth}
 use Rattle.map_import.specs.declared.faults.ImportFault.TheVariants as fault
 use Rattle.map_import.specs.declared.faults.ImportFault.{ImportFault}
-use Rattle.map_import.specs.Roads.{UsedWay, points_along, line_length, piece_of, number, first_of, last_of, with_tower, with_towers}
+use Rattle.geo_math.specs.Lengths.{line_length}
+use Rattle.map_import.specs.Roads.{UsedWay, points_along, piece_of, number, first_of, last_of, with_tower, with_towers}
 use Rattle.map_import.specs.Building.{laid_as}
 use Rattle.map_import.proofs.Built.{on_earth, is_too_long, is_full_of_edges, is_full_of_nodes, not_shorter, laid_more}
 use Rattle.map_import.proofs.Ends.{refuse_exit}
