@@ -19,8 +19,6 @@ mod parts;
 mod query;
 mod shape;
 mod sure;
-#[cfg(test)]
-mod tests;
 mod text;
 mod views;
 mod whole;
