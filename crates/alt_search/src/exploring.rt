@@ -69,6 +69,3 @@ pub fn explore_all<V: RoadView>(
     let past = NodeId(view.node_count());
     explore(alloc, view, &FlatPotential, start, past)
 }
-
-#[cfg(test)]
-mod tests;

@@ -112,6 +112,3 @@ pub fn search<V: RoadView, P: Potential>(
         settled: end.settled,
     })
 }
-
-#[cfg(test)]
-mod tests;

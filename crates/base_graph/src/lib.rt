@@ -14,6 +14,3 @@ mod lists;
 pub use around::Around;
 pub use faults::GraphFault;
 pub use graph::{BaseGraph, EdgeEnds};
-
-#[cfg(test)]
-mod tests;

@@ -103,6 +103,3 @@ pub fn opening_limit(values: &DirValues) -> u32
         .max(values.bike_speed.max(values.foot_speed));
     MILLI * u32::from(fastest)
 }
-
-#[cfg(test)]
-mod tests;

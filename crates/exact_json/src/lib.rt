@@ -23,6 +23,3 @@ pub use printer::print;
 pub use reader::read;
 pub use stop::Stop;
 pub use value::{Decimal, Json, JsonList, Member, MemberList};
-
-#[cfg(test)]
-mod tests;

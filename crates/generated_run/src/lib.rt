@@ -16,6 +16,3 @@ mod summing;
 pub use laws::sizes_have_one_ground;
 pub use running::generate;
 pub use summing::Summary;
-
-#[cfg(test)]
-mod tests;

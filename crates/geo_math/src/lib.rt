@@ -12,6 +12,3 @@ mod roots;
 pub use foot::{Snap, project};
 pub use lengths::segment_mm;
 pub use roots::isqrt;
-
-#[cfg(test)]
-mod tests;

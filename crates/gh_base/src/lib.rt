@@ -20,8 +20,6 @@ mod parts;
 mod query;
 mod shape;
 mod sure;
-#[cfg(test)]
-mod tests;
 mod text;
 mod views;
 mod whole;

@@ -22,6 +22,3 @@ pub use serving::serve_script;
 pub use status::{MapFault, Quantity, Status, Which};
 pub use texts::fault_text;
 pub use top::run;
-
-#[cfg(test)]
-mod tests;

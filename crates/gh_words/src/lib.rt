@@ -9,8 +9,6 @@ mod convert;
 mod options;
 mod request;
 mod serve;
-#[cfg(test)]
-mod tests;
 mod words;
 
 pub use request::{Request, WordsFault};

@@ -158,6 +158,3 @@ impl<'a> HopTest for SetTest<'a> {
         hop.weight.is_some() && self.closed.has(tail) && !self.closed.has(hop.to)
     }
 }
-
-#[cfg(test)]
-mod tests;

@@ -62,6 +62,3 @@ fn cut_weight(weight: Option<u128>) -> Option<u64>
     let weight = weight?;
     Some(weight.min(u128::from(LIMIT_MS)) as u64)
 }
-
-#[cfg(test)]
-mod tests;

@@ -11,6 +11,3 @@ mod parts;
 
 pub use farthest::{Choice, Chosen, choices_are_fronts, choose};
 pub use parts::largest_part;
-
-#[cfg(test)]
-mod tests;

@@ -24,6 +24,3 @@ pub use laws::{
 };
 pub use making::{Made, make_prep};
 pub use preparation::{Prep, of_parts};
-
-#[cfg(test)]
-mod tests;

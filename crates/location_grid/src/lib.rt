@@ -19,6 +19,3 @@ mod snaps;
 pub use edge_bits::EdgeBits;
 pub use edge_set::EdgeSet;
 pub use grid::{Grid, OnEdge};
-
-#[cfg(test)]
-mod tests;

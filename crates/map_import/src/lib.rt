@@ -19,6 +19,3 @@ pub use faults::ImportFault;
 pub use laws::{edges_are_pieces, pieces_join_towers, the_first_that_cannot_stand_is_refused};
 pub use origins::ways_of_edges;
 pub use roads::{Roads, import};
-
-#[cfg(test)]
-mod tests;

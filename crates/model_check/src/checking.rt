@@ -57,7 +57,7 @@ fn factor_of(action: Action) -> Option<u32>
 }
 
 /// The first factor above 1.
-pub(crate) fn first_offence(part: Part, statements: &[Statement]) -> Option<Speeding>
+fn first_offence(part: Part, statements: &[Statement]) -> Option<Speeding>
     requires few { length statements.now ≤ 100 }
     requires bounded { All (λ s. IsBounded s.action) statements.now }
     ensures { MatchOption result (spec.offender_among part 1 statements.now ≡ None) (λ s. spec.offender_among part 1 statements.now ≡ Some (record { part = s.part; item = s.item; value = s.value })) }

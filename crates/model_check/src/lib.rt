@@ -8,6 +8,3 @@
 mod checking;
 
 pub use checking::{Speeding, check, offenders_are_exact, plain};
-
-#[cfg(test)]
-mod tests;

@@ -164,6 +164,3 @@ pub fn areas_of<S: Shapes>(model: &CustomModel, shapes: &S, edge: EdgeId) -> u64
     }
     word
 }
-
-#[cfg(test)]
-mod tests;

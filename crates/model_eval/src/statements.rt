@@ -151,6 +151,3 @@ pub fn priority_of(model: &CustomModel, values: &DirValues, areas: u64, start: u
         start,
     )
 }
-
-#[cfg(test)]
-mod tests;

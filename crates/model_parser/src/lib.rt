@@ -17,6 +17,3 @@ mod values;
 pub use fault::ModelFault;
 pub use gh_base::{ModelKind, Part, Place3};
 pub use model_text::parse_model;
-
-#[cfg(test)]
-mod tests;

@@ -17,8 +17,6 @@ mod nodes;
 mod pieces;
 mod reading;
 mod runs;
-#[cfg(test)]
-mod tests;
 mod ways;
 
 pub use fault::PbfFault;

@@ -201,6 +201,3 @@ pub fn field_at(bytes: &[u8], at: usize) -> Result<Field, WireFault>
         }),
     }
 }
-
-#[cfg(test)]
-mod tests;

@@ -11,8 +11,6 @@ mod fields;
 mod law;
 mod sizes;
 mod strings;
-#[cfg(test)]
-mod tests;
 mod ways;
 mod writing;
 

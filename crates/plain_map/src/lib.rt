@@ -13,8 +13,6 @@ mod line;
 mod printing;
 mod reading;
 mod tags;
-#[cfg(test)]
-mod tests;
 mod texts;
 
 pub use fault::PlainFault;

@@ -154,6 +154,3 @@ fn next_given(hops: &[Option<Hop>], next: &mut usize) -> Option<Hop>
     }
     None
 }
-
-#[cfg(test)]
-mod tests;

@@ -6,8 +6,6 @@
 #![tactic(auto)]
 
 mod session;
-#[cfg(test)]
-mod tests;
 
 pub use script_text::{
     Command, Line, Names, Phase, Phases, Reply, Script, ScriptFault, ScriptKind, ScriptRead,

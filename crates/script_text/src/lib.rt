@@ -21,8 +21,6 @@ mod reply;
 mod reply_line;
 mod script;
 mod so_far;
-#[cfg(test)]
-mod tests;
 mod words;
 
 pub use entry_line::put_entry;

@@ -72,6 +72,3 @@ impl Queue {
         Some((NodeId(item.node), item.key))
     }
 }
-
-#[cfg(test)]
-mod tests;

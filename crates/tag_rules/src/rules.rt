@@ -93,6 +93,3 @@ pub fn values_of(tags: &TagList) -> Option<EdgeValues>
         None
     }
 }
-
-#[cfg(test)]
-mod tests;

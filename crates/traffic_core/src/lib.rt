@@ -21,8 +21,6 @@ mod routing;
 mod rows;
 mod spot;
 mod state;
-#[cfg(test)]
-mod tests;
 mod towers;
 mod usable;
 

@@ -332,6 +332,3 @@ impl<'g> Limits for RoadState<'g> {
         RoadState::limit(self, edge)
     }
 }
-
-#[cfg(test)]
-mod tests;

@@ -17,6 +17,3 @@ pub use log::Log;
 pub use replies::{LowerReply, PublishReply, RestoreReply};
 pub use sealed::{Naming, Sealed, TruePrep};
 pub use seat::{Asked, Seat};
-
-#[cfg(test)]
-mod tests;

@@ -1,5 +1,4 @@
 pub mod Falls
-mod Made
 mod Plain
 mod Quotients
 mod Stored

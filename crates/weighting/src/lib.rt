@@ -9,8 +9,6 @@ mod laws;
 mod opening;
 mod profile;
 mod quotient;
-#[cfg(test)]
-mod tests;
 mod weight_view;
 mod weighting;
 
