@@ -43,5 +43,5 @@ pub use query::{Place, RouteAnswer, Vehicle};
 pub use shape::{Shape, Shapes};
 pub use sure::{SureFiles, SureSink, SureSource};
 pub use text::Text;
-pub use views::{FreshView, Potential, RoadView};
+pub use views::{FreshView, Potential, RoadView, Unwanted};
 pub use whole::{TakeFault, read_whole};

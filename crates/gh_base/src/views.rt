@@ -1,9 +1,17 @@
 //! Views of roads, which count at how many nodes they were started, and bounds on what is left.
-ghost use Rattle.std.specs.Prelude.{◌≡◌, ◌+◌, ◌-◌, ◌^◌, ◌<◌, ℕ, Option, List, [], ◌∷◌, IfNone, IfSome};
+ghost use Rattle.std.specs.Prelude.{◌≡◌, ◌+◌, ◌-◌, ◌^◌, ◌<◌, ℕ, Bool, Option, List, [], ◌∷◌, IfNone, IfSome};
 ghost use Rattle.gh_base.specs.declared.edges.Hop.{Hop};
-ghost use Rattle.gh_base.specs.Networks.{Network, LeadsToNodes};
+ghost use Rattle.gh_base.specs.Networks.{Network, LeadsToNodes, wanted_from};
 
 use crate::edges::{Hop, NodeId};
+
+/// Nodes to which no hop is wanted.
+pub trait Unwanted {
+    ghost is_unwanted: { Self → ℕ → Bool };
+
+    fn is_unwanted(&self, node: NodeId) -> bool
+        ensures { result ≡ is_unwanted self.now node.0 };
+}
 
 /// Roads, seen from one node at a time.
 pub trait RoadView {
@@ -34,6 +42,23 @@ pub trait RoadView {
         ensures ended { IfNone result (left self.new ≡ []) }
         ensures starts { starts self.new ≡ starts self.old }
         ensures network { network self.new ≡ network self.old };
+
+    /// The next hop of the node last started at, but for those to unwanted nodes, which are passed
+    /// over; None after the last. A view that weighs its hops need not weigh what it passes over.
+    fn next_wanted<U: Unwanted>(&mut self, unwanted: &U) -> Option<Hop>
+        ensures hop { IfSome result (λ hop. wanted_from (U.is_unwanted unwanted.now) (left self.old) ≡ hop ∷ left self.new) }
+        ensures end { IfNone result (wanted_from (U.is_unwanted unwanted.now) (left self.old) ≡ []) }
+        ensures ended { IfNone result (left self.new ≡ []) }
+        ensures starts { starts self.new ≡ starts self.old }
+        ensures network { network self.new ≡ network self.old }
+    {
+        while let Some(hop) = self.next_hop() {
+            if !unwanted.is_unwanted(hop.to) {
+                return Some(hop);
+            }
+        }
+        None
+    }
 
     /// Each hop leads to a node.
     ghost leads: { (view : Self) → LeadsToNodes (network view) };
