@@ -3,6 +3,7 @@ pub mod Listed
 pub mod Trees
 pub mod Settle
 pub mod Relax
+pub mod Useful
 pub mod Underway
 pub mod Begin
 pub mod Frontier

@@ -10,7 +10,7 @@ use Rattle.gh_base.specs.Networks.{Network}
 use Rattle.walk_rules.specs.Walks.{hops_from, cost}
 use Rattle.walk_rules.specs.Potentials.{FallsAlong}
 use Rattle.search_queue.specs.Keys.{key_at}
-use Rattle.alt_search.specs.Progress.{reach_at, IsSettled, IsTree, IsOrdered, Extends, Improves, Passes, Relaxes}
+use Rattle.alt_search.specs.Progress.{reach_at, IsSettled, IsTree, IsOrdered, IsRelaxed, Extends, Improves, Passes, Relaxes}
 use Rattle.walk_rules.proofs.Options.{some_or_none, some_of, Contains-cons_cases}
 
 -- the new walk to the head
@@ -144,6 +144,23 @@ module _ {network : Network} {bound : ℕ → Option ℕ} {start settled : ℕ} 
     ];
   }
 
+-- a hop over which no lighter walk leads is left no more
+pub leave_relaxed : {network : Network} {bound : ℕ → Option ℕ} {least : ℕ} {tail : NodeId} {from : Reach} {hop : Hop} {reached : List (Option Reach)} {keys : List (Option ℕ)} → IsSettled reached keys tail.0 from → (IsSome hop.weight → IsRelaxed bound reached from hop) → (left : List Hop) → IsOrdered network bound least reached keys tail.0 (hop ∷ left) → IsOrdered network bound least reached keys tail.0 left
+leave_relaxed {network} {bound} {least} {tail} {from} {hop} {reached} {keys} from_settled relaxed left o = record {
+  below = o.below;
+  above = o.above;
+  relaxed = λ u reach h s c w. elim (o.relaxed u reach h s c w) [
+    | inl l ↦ elim (Contains-cons_cases hop left h l.1) [
+      | inl e ↦
+          let same : from ≡ reach = let a = from_settled.reach_is in let d = ap (reach_at reached) l.0 in let g = s.reach_is in cc in
+          let weighs : IsSome hop.weight = ap (λ (y : Hop). is_some y.weight) e ∙ w in
+          inr (subst (λ (y : Hop). IsRelaxed bound reached reach y) e (subst (λ (r : Reach). IsRelaxed bound reached r hop) same (relaxed weighs)))
+      | inr rest ↦ inl (l.0, rest)
+    ]
+    | inr done ↦ inr done
+  ];
+}
+
 module _ {network : Network} {bound : ℕ → Option ℕ} {start settled : ℕ} {tail : NodeId} {from : Reach} {hop : Hop} {reached : List (Option Reach)} {keys : List (Option ℕ)} {reached' : List (Option Reach)} {keys' : List (Option ℕ)} (t : IsTree network bound start settled reached keys) (from_settled : IsSettled reached keys tail.0 from) (contains : Contains (hops_from network tail.0) hop) (in_reached : hop.to.0 < length reached) (in_keys : hop.to.0 < length keys) (p : Passes bound from hop reached keys reached' keys') where
   -- what holds of the state before holds after
   kept : (P : List (Option Reach) → List (Option ℕ) → Type 0) → P reached keys → P reached' keys'
@@ -160,32 +177,16 @@ module _ {network : Network} {bound : ℕ → Option ℕ} {start settled : ℕ} 
   ]
 
   pass_ordered : {x : ℕ} → FallsAlong network bound → bound tail.0 ≡ Some x → (left : List Hop) → IsOrdered network bound (from.weight + x) reached keys tail.0 (hop ∷ left) → IsOrdered network bound (from.weight + x) reached keys tail.0 left
-  pass_ordered {x} f x_is left o = record {
-    below = o.below;
-    above = o.above;
-    relaxed = λ u reach h s c w. elim (o.relaxed u reach h s c w) [
-      | inl l ↦ elim (Contains-cons_cases hop left h l.1) [
-        | inl e ↦ inr (λ b bh.
-            let same : from ≡ reach = let a = from_settled.reach_is in let d = ap (reach_at reached) l.0 in let g = s.reach_is in cc in
-            let m = ap (λ (r : Reach). r.weight) same in
-            let n = ap cost e in
-            let weighs : IsSome hop.weight = ap (λ (y : Hop). is_some y.weight) e ∙ w in
-            let b_is : bound hop.to.0 ≡ Some b = ap (λ (y : Hop). bound y.to.0) e ∙ bh in
-            let known = known_there weighs b b_is in
-            let at : reach_at reached h.to.0 ≡ Some known.0 = ap (λ (y : Hop). reach_at reached y.to.0) (sym e) ∙ known.1 in
-            elim known.2 [
-              | inl k ↦
-                  let y = f tail.0 hop contains weighs b b_is in
-                  let same_x : y.0 ≡ x = cc in
-                  let z = o.below hop.to.0 known.0 b (record { reach_is = known.1; no_key = k }) b_is in
-                  (known.0, at, omega arith)
-              | inr le ↦ (known.0, at, omega arith)
-            ])
-        | inr rest ↦ inl (l.0, rest)
-      ]
-      | inr done ↦ inr done
-    ];
-  }
+  pass_ordered {x} f x_is left o = leave_relaxed from_settled (λ weighs b b_is.
+      let known = known_there weighs b b_is in
+      elim known.2 [
+        | inl k ↦
+            let y = f tail.0 hop contains weighs b b_is in
+            let same_x : y.0 ≡ x = cc in
+            let z = o.below hop.to.0 known.0 b (record { reach_is = known.1; no_key = k }) b_is in
+            (known.0, known.1, omega arith)
+        | inr le ↦ (known.0, known.1, le)
+      ]) left o
 
 module _ {network : Network} {bound : ℕ → Option ℕ} {start settled : ℕ} {tail : NodeId} {from : Reach} {hop : Hop} {reached : List (Option Reach)} {keys : List (Option ℕ)} {reached' : List (Option Reach)} {keys' : List (Option ℕ)} (t : IsTree network bound start settled reached keys) (from_settled : IsSettled reached keys tail.0 from) (contains : Contains (hops_from network tail.0) hop) (in_reached : hop.to.0 < length reached) (in_keys : hop.to.0 < length keys) (r : Relaxes bound tail from hop reached keys reached' keys') where
   pub relax_settled : (v : ℕ) (reach : Reach) → IsSettled reached keys v reach → IsSettled reached' keys' v reach

@@ -1,5 +1,5 @@
 -- What is true between two steps of a search.
-use Rattle.std.specs.Prelude.{◌≡◌, ℕ, ◌+◌, ◌*◌, ◌^◌, ◌<◌, ◌≤◌, ◌⊎◌, Bool, true, false, ◌&&◌, not, Option, Some, None, is_some, IsSome, List, [], length, Contains, slice_index_or, slice_set}
+use Rattle.std.specs.Prelude.{◌≡◌, ℕ, ◌+◌, ◌*◌, ◌^◌, ◌<◌, ◌≤◌, ◌⊎◌, Bool, true, false, ◌&&◌, not, nat_le, Option, Some, None, is_some, IsSome, List, [], length, Contains, slice_index_or, slice_set}
 use Rattle.gh_base.specs.declared.edges.Hop.{Hop}
 use Rattle.gh_base.specs.declared.edges.NodeId.{NodeId}
 use Rattle.gh_base.specs.Networks.{Network}
@@ -40,6 +40,15 @@ pub record IsTree (network : Network) (bound : ℕ → Option ℕ) (start settle
   pub small : (node : ℕ) (reach : Reach) → reach_at reached node ≡ Some reach → (reach.depth ≤ settled) × (reach.weight ≤ 2 ^ 64 * reach.depth)
   pub bounded : (node : ℕ) (reach : Reach) → reach_at reached node ≡ Some reach → IsSome (bound node)
   pub queued : AreQueued bound reached keys
+
+-- whether a walk is there and weighs no more than this
+abbrev pub is_within : ℕ → Option Reach → Bool
+is_within weight None = false
+is_within weight (Some reach) = nat_le reach.weight weight
+
+-- whether such a walk is known to a node
+abbrev pub is_known_within : List (Option Reach) → ℕ → ℕ → Bool
+is_known_within reached weight node = is_within weight (reach_at reached node)
 
 -- how many hops a walk has, if there is one
 abbrev pub depth_of : Option Reach → ℕ

@@ -2,6 +2,7 @@
 ghost use Rattle.std.specs.Prelude.{◌≡◌, ◌+◌, ◌-◌, ◌*◌, ◌^◌, ◌<◌, ◌≤◌, length, IfOk};
 ghost use Rattle.alt_search.specs.Progress.{AreQueued, Relaxes, IsDone};
 
+use crate::known::next_useful;
 use crate::reach::Reach;
 use crate::reached::Reached;
 use gh_base::{Hop, NoMemory, NodeId, Potential, RoadView};
@@ -56,7 +57,7 @@ pub fn expand<V: RoadView, P: Potential>(
         };
         view.start_at(node);
         settled += 1;
-        'hops: while let Some(hop) = view.next_hop() {
+        'hops: while let Some(hop) = next_useful(view, &reached, count, from.weight) {
             relax(&mut reached, &mut queue, potential, node, from, hop);
         }
     }

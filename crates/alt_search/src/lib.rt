@@ -12,6 +12,7 @@ mod expansion;
 mod explored;
 mod exploring;
 mod finding;
+mod known;
 mod potential;
 mod reach;
 mod reached;

@@ -1,13 +1,14 @@
 //! A view with a start and a target that may lie inside edges.
 ghost use Rattle.std.specs.Prelude.{◌≡◌, ◌↔◌, List, All, ◌+◌, ◌-◌, ◌^◌, ◌<◌, ◌≤◌, [], ◌∷◌, drop, length, IfSome, IfNone};
 ghost use Rattle.gh_base.specs.declared.edges.Hop.{Hop};
+ghost use Rattle.gh_base.specs.Networks.{wanted_from};
 ghost use Rattle.walk_rules.specs.Walks.{IsWalk};
 ghost use Rattle.query_graph.specs.Ends.{given, ways_out, LeavesIn, ReachesIn, AreDirect, start_in, target_in};
 ghost use Rattle.query_graph.specs.Joined.{hops_into, joined};
 ghost use Rattle.query_graph.specs.Between.{IsBetween};
 
 use crate::ends::{Leave, Reach};
-use gh_base::{Arrival, Hop, NodeId, RoadView};
+use gh_base::{Arrival, Hop, NodeId, RoadView, Unwanted};
 
 /// The roads of a base view and two nodes more. With n nodes in the base, n is the start and n + 1
 /// the target of a walk, each where that place lies inside an edge; else no hop leaves that number
@@ -60,6 +61,23 @@ impl<V: RoadView> QueryView<V> {
             passed: 0,
             own_starts: 0,
         }
+    }
+}
+
+impl<V: RoadView> QueryView<V> {
+    /// The next wanted hop that the base has; it may pass over the others unweighed.
+    fn next_of_base<U: Unwanted>(&mut self, unwanted: &U) -> Option<Hop>
+        ensures hop { IfSome result (λ hop. wanted_from (U.is_unwanted unwanted.now) (⟦<QueryView<V> as RoadView>⟧.left self.old)
+            ≡ hop ∷ ⟦<QueryView<V> as RoadView>⟧.left self.new) }
+        ensures none { IfNone result (wanted_from (U.is_unwanted unwanted.now) (⟦<QueryView<V> as RoadView>⟧.left self.old)
+            ≡ wanted_from (U.is_unwanted unwanted.now) (⟦<QueryView<V> as RoadView>⟧.left self.new)) }
+        ensures starts { ⟦<QueryView<V> as RoadView>⟧.starts self.new ≡ ⟦<QueryView<V> as RoadView>⟧.starts self.old }
+        ensures network { ⟦<QueryView<V> as RoadView>⟧.network self.new ≡ ⟦<QueryView<V> as RoadView>⟧.network self.old }
+    {
+        if self.node < self.count {
+            return self.base.next_wanted(unwanted);
+        }
+        None
     }
 }
 
@@ -116,6 +134,18 @@ impl<V: RoadView> RoadView for QueryView<V> {
             }
         }
         next_given(&self.direct, &mut self.passed)
+    }
+
+    fn next_wanted<U: Unwanted>(&mut self, unwanted: &U) -> Option<Hop> {
+        if let Some(hop) = self.next_of_base(unwanted) {
+            return Some(hop);
+        }
+        while let Some(hop) = self.next_hop() {
+            if !unwanted.is_unwanted(hop.to) {
+                return Some(hop);
+            }
+        }
+        None
     }
 }
 

@@ -1,13 +1,14 @@
-use Rattle.std.proofs.Common.{◌≡◌, ◌+◌, ◌<◌, Some, None, length, suc, replicate, Contains, refl, sym, subst, ap, ◌∙◌, arith}
+use Rattle.std.proofs.Common.{◌≡◌, ◌+◌, ◌<◌, Some, None, length, replicate, Contains, refl, sym, subst, ap, ◌∙◌, arith}
 use Rattle.std.specs.Prelude.{slice_set}
 use Rattle.walk_rules.specs.Walks.{hops_from}
 use Rattle.walk_rules.proofs.Counting.{count_below-le}
 use Rattle.alt_search.specs.declared.reach.Reach.{Reach}
-use Rattle.alt_search.specs.Progress.{reach_at, is_settled}
+use Rattle.alt_search.specs.Progress.{reach_at, is_settled, is_known_within}
 use Rattle.alt_search.proofs.Listed.{emptied}
 use Rattle.alt_search.proofs.Begin.{begin_empty, begin_at}
 use Rattle.alt_search.proofs.Settle.{settle_ordered}
 use Rattle.alt_search.proofs.Relax.{relax_ordered, relax_settled}
+use Rattle.alt_search.proofs.Useful.{first_left, later_left, fewer_left, leave_passed}
 use Rattle.alt_search.proofs.Underway.{settle_underway, relax_underway}
 use Rattle.alt_search.proofs.expansion.expand.Goals as goal
 use Rattle.alt_search.proofs.expansion.expand.Goals.{in-Some, in_default}
@@ -72,15 +73,15 @@ hops-init g c =
 pub relax-requires-clause-reached : goal.relax-requires-clause-reached
 relax-requires-clause-reached g c =
     let i = c.hops.invariant in
-    let hop = c.in-Some-next_hop.hop in
-    let on_left : Contains (g.V.RoadView.left c.hops.view) hop = rw c.in-Some-next_hop.ensures.hop (0, omega arith, refl) in
+    let hop = c.in-Some-next_useful.hop in
+    let on_left = first_left (is_known_within c.hops.reached c.in-Some-reach.from.weight) (g.V.RoadView.left c.hops.view) hop (g.V.RoadView.left c.next_useful.new.view) c.in-Some-next_useful.ensures.hop in
     omega (arith, i.underway.long_reached, g.met.V.RoadView.leads c.args.view.now c.in-Some-pop_least.node.0 hop (i.rest hop on_left))
 
 pub relax-requires-clause-keys : goal.relax-requires-clause-keys
 relax-requires-clause-keys g c =
     let i = c.hops.invariant in
-    let hop = c.in-Some-next_hop.hop in
-    let on_left : Contains (g.V.RoadView.left c.hops.view) hop = rw c.in-Some-next_hop.ensures.hop (0, omega arith, refl) in
+    let hop = c.in-Some-next_useful.hop in
+    let on_left = first_left (is_known_within c.hops.reached c.in-Some-reach.from.weight) (g.V.RoadView.left c.hops.view) hop (g.V.RoadView.left c.next_useful.new.view) c.in-Some-next_useful.ensures.hop in
     omega (arith, i.underway.long_keys, g.met.V.RoadView.leads c.args.view.now c.in-Some-pop_least.node.0 hop (i.rest hop on_left))
 
 pub relax-requires-clause-depth : goal.relax-requires-clause-depth
@@ -95,8 +96,8 @@ hops-preserved g c =
     let bound = g.P.Potential.bound c.args.potential.now in
     let i = c.hops.invariant in
     let u = i.underway in
-    let hop = c.in-Some-next_hop.hop in
-    let on_left : Contains (g.V.RoadView.left c.hops.view) hop = rw c.in-Some-next_hop.ensures.hop (0, omega arith, refl) in
+    let hop = c.in-Some-next_useful.hop in
+    let on_left = first_left (is_known_within c.hops.reached c.in-Some-reach.from.weight) (g.V.RoadView.left c.hops.view) hop (g.V.RoadView.left c.next_useful.new.view) c.in-Some-next_useful.ensures.hop in
     let contains = i.rest hop on_left in
     let in_range : hop.to.0 < network.nodes = g.met.V.RoadView.leads c.args.view.now c.in-Some-pop_least.node.0 hop contains in
     let in_reached : hop.to.0 < length c.hops.reached = omega (arith, u.long_reached) in
@@ -104,17 +105,34 @@ hops-preserved g c =
     let r = c.relax.ensures in
     let w = relax_underway u i.from_settled contains in_range i.deep r in
     record {
-      same = c.in-Some-next_hop.ensures.network ∙ i.same;
-      starts = omega (arith, c.in-Some-next_hop.ensures.starts, i.starts);
+      same = c.in-Some-next_useful.ensures.network ∙ i.same;
+      starts = omega (arith, c.in-Some-next_useful.ensures.starts, i.starts);
       few = i.few;
       underway = w;
       from_settled = relax_settled u.tree i.from_settled contains in_reached in_keys r c.in-Some-pop_least.node.0 c.in-Some-reach.from i.from_settled;
       deep = i.deep;
-      rest = λ h l. i.rest h (rw c.in-Some-next_hop.ensures.hop (suc l.0, omega (arith, l.1), l.2));
+      rest = λ h l. i.rest h (later_left (is_known_within c.hops.reached c.in-Some-reach.from.weight) (g.V.RoadView.left c.hops.view) hop (g.V.RoadView.left c.next_useful.new.view) c.in-Some-next_useful.ensures.hop h l);
       ordered = λ f.
           let o = i.ordered f in
-          (o.0, o.1, relax_ordered u.tree i.from_settled contains in_reached in_keys r f o.1 (g.V.RoadView.left c.next_hop.new.self) (rw c.in-Some-next_hop.ensures.hop at o.2));
+          (o.0, o.1, relax_ordered u.tree i.from_settled contains in_reached in_keys r f o.1 (g.V.RoadView.left c.next_useful.new.view) (rw c.in-Some-next_useful.ensures.hop at (leave_passed i.from_settled (g.V.RoadView.left c.hops.view) o.2)));
     }
+
+pub nodes-preserved : goal.nodes-preserved
+nodes-preserved g c =
+    let i = c.hops.invariant in
+    let end = c.in_default-next_useful.ensures in
+    record {
+      same = end.network ∙ i.same;
+      starts = omega (arith, end.starts, i.starts);
+      few = i.few;
+      underway = i.underway;
+      in_order = λ f.
+          let o = i.ordered f in
+          record { least = c.in-Some-reach.from.weight + o.0; node = c.in-Some-pop_least.node.0; ordered = rw end.end at (leave_passed i.from_settled (g.V.RoadView.left c.hops.view) o.2) };
+    }
+
+pub hops-smaller : goal.hops-smaller
+hops-smaller g c = omega (arith, fewer_left (is_known_within c.hops.reached c.in-Some-reach.from.weight) (g.V.RoadView.left c.hops.view) c.in-Some-next_useful.hop (g.V.RoadView.left c.next_useful.new.view) c.in-Some-next_useful.ensures.hop)
 
 pub nodes-smaller : goal.nodes-smaller
 nodes-smaller g c =
