@@ -2,7 +2,7 @@
 ghost use Rattle.std.specs.Prelude.{◌≡◌, ◌≤◌, map};
 ghost use Rattle.walk_rules.specs.Distances.{rounded, rounded_hop, in_grains};
 
-use gh_base::{FreshView, Hop, NodeId, RoadView};
+use gh_base::{FreshView, Hop, NodeId, RoadView, Unwanted};
 
 /// The roads of a view, each weight rounded down to whole grains: `grain * floor(weight / grain)`. A
 /// barred hop stays barred.
@@ -48,11 +48,14 @@ impl<V: RoadView> RoadView for GrainView<V> {
 
     fn next_hop(&mut self) -> Option<Hop> {
         match self.base.next_hop() {
-            Some(hop) => Some(Hop {
-                to: hop.to,
-                by: hop.by,
-                weight: round_down(hop.weight, self.grain),
-            }),
+            Some(hop) => Some(in_grains_of(hop, self.grain)),
+            None => None,
+        }
+    }
+
+    fn next_wanted<U: Unwanted>(&mut self, unwanted: &U) -> Option<Hop> {
+        match self.base.next_wanted(unwanted) {
+            Some(hop) => Some(in_grains_of(hop, self.grain)),
             None => None,
         }
     }
@@ -64,6 +67,18 @@ impl<V: FreshView> FreshView for GrainView<V> {
             base: self.base.again(),
             grain: self.grain,
         }
+    }
+}
+
+/// The same hop, with its weight rounded down.
+fn in_grains_of(hop: Hop, grain: u64) -> Hop
+    requires { 1 ≤ grain }
+    ensures { result ≡ rounded_hop grain hop }
+{
+    Hop {
+        to: hop.to,
+        by: hop.by,
+        weight: round_down(hop.weight, grain),
     }
 }
 
