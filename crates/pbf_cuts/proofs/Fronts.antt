@@ -23,7 +23,7 @@ use Rattle.pbf_cuts.proofs.Blobs.{same_blob}
 -- where blobs end
 
 -- one or more blobs from a place on end here
-abbrev EndsFrom : List ℕ → ℕ → ℕ → Type 0
+abbrev pub EndsFrom : List ℕ → ℕ → ℕ → Type 0
 EndsFrom file at n = (more : ℕ) × (blobs_end (suc more) file at ≡ Some n)
 
 up_by : (file : List ℕ) (at n : ℕ) (after : ℕ → Option ℕ) (o : Option ℕ) → blob_end file at ≡ o → ((next : ℕ) → after next ≡ Some n → next ≤ n) → option_and_then after o ≡ Some n → at < n
@@ -39,7 +39,7 @@ ends_up (suc blobs) file at n is =
     let less = up_by file at n (blobs_end blobs file) (blob_end file at) refl (λ next e. ends_up blobs file next n e) is in
     omega arith
 
-ends_behind : (file : List ℕ) (at n : ℕ) → EndsFrom file at n → at < n
+pub ends_behind : (file : List ℕ) (at n : ℕ) → EndsFrom file at n → at < n
 ends_behind file at n ends = up_by file at n (blobs_end ends.0 file) (blob_end file at) refl (λ next e. ends_up ends.0 file next n e) ends.1
 
 one_blob : (file : List ℕ) (at n : ℕ) → blob_end file at ≡ Some n → EndsFrom file at n

@@ -4,3 +4,4 @@ pub mod Grows
 pub mod Headers
 pub mod Blobs
 pub mod Fronts
+pub mod ThreeBlobsShown
