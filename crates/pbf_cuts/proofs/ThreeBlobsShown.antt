@@ -1,4 +1,4 @@
--- The file of three blobs, by computing.
+-- The file of three blobs, by computing it.
 use Rattle.std.proofs.lemmas.Option.{same_Some}
 use Rattle.std.proofs.Common.{◌≡◌, ℕ, ◌<◌, ◌≤◌, inl, inr, zero, suc, length, take, Some, Result, Ok, Err, refl, sym, arith}
 use Rattle.std.specs.Str.Lossy.{utf8_valid_len}
