@@ -3,7 +3,7 @@ use Rattle.std.proofs.Common.{◌≡◌, ℕ, ◌+◌, ◌*◌, ◌<◌, ◌≤�
 use Rattle.std.specs.Prelude.{◌==◌, IfSome, IsTrue, nat_lt, unwrap_or}
 use Rattle.std.specs.Int.{div_ceil}
 use Rattle.std.specs.Option.{option_or}
-use Rattle.std.proofs.Math.Nat.{mul-le-mul, mul-le-mul_left, lt_of_mul-lt-mul_right, mul-pos, add-mul, le-mul_of_pos_right}
+use Rattle.std.proofs.Math.Nat.{mul-le-mul, mul-le-mul_left, mul-pos}
 use Rattle.std.proofs.lemmas.Bool.{cases_Bool, or_cases, eq-eqb, eqb-true, ltb-false}
 use Rattle.std.proofs.lemmas.Bool.Decides.{nat_tests}
 use Rattle.std.proofs.lemmas.Grind.{div_ceil_times}

@@ -1,7 +1,7 @@
 -- Quotients that are rounded up.
-use Rattle.std.proofs.Common.{◌≡◌, ℕ, ◌+◌, ◌-◌, ◌*◌, ◌<◌, ◌≤◌, ◌^◌, refl, sym, arith}
+use Rattle.std.proofs.Common.{◌≡◌, ℕ, ◌+◌, ◌-◌, ◌*◌, ◌<◌, ◌≤◌, ◌^◌, arith}
 use Rattle.std.specs.Int.{div_ceil}
-use Rattle.std.proofs.Math.Nat.{add-mul, lt_of_mul-lt-mul_right, mul-pos, le-mul_of_pos_right}
+use Rattle.std.proofs.Math.Nat.{add-mul, lt_of_mul-lt-mul_right, le-mul_of_pos_right}
 use Rattle.std.proofs.lemmas.Grind.{div_ceil_times}
 use Rattle.weighting.specs.Weights.{time_at}
 
