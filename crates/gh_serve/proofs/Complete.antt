@@ -6,6 +6,7 @@ use Rattle.gh_base.specs.declared.kinds.Form.{Form}
 use Rattle.gh_base.specs.declared.kinds.Form.TheVariants as forms
 use Rattle.gh_base.specs.declared.map.OsmMap.{OsmMap}
 use Rattle.gh_serve.specs.Statuses.{ReadsAs, IsFaultOf, IsMap, IsScriptText, AsksLabels, AreFewLabels, AreManyLabels, IsOfService, IsOfConversion, MapSays, ScriptSays, LabelsSay, IsCalm, IsDoneOrNoMemory}
+use Rattle.gh_serve.specs.Runs.{IsServable}
 use Rattle.gh_serve.specs.Converting.{IsConvertible, ConversionSays}
 use Rattle.gh_serve.specs.declared.status.MapFault.{MapFault}
 use Rattle.gh_serve.specs.declared.status.MapFault.TheVariants as fault
@@ -106,12 +107,12 @@ converts_to_the_end (status.BadMap (fault.Pbf byte kind)) forms.Plain to held of
 pub serves_complete : (s : Status) (form : Form) (holds left : Option (List ℕ)) (b c t u i j k l : ℕ) → IsOfService s → IfSome holds (MapSays s form) → IfSome left (ScriptSays s) →
     IfSome holds (λ held. IfSome left (λ bytes. LabelsSay s form held bytes)) →
     (s ≡ status.OpenFault → Rose b c) → (s ≡ status.ReadFault which.Map → Rose t u) → (s ≡ status.ReadFault which.Script → Rose i j) → (s ≡ status.WriteFault → Rose k l) →
-    IfSome holds (λ held. IfSome left (λ bytes. IsMap form held → IsScriptText bytes → AreFewLabels form held bytes →
+    IfSome holds (λ held. IfSome left (λ bytes. IsServable form held bytes →
     IsCalm b c → IsCalm t u → IsCalm i j → IsCalm k l → IsDoneOrNoMemory s))
 serves_complete s form None left b c t u i j k l of says script_says labels_say bring read_map read_script write = tt
 serves_complete s form (Some held) None b c t u i j k l of says script_says labels_say bring read_map read_script write = tt
-serves_complete s form (Some held) (Some bytes) b c t u i j k l of says script_says labels_say bring read_map read_script write = λ is_map is_script few no_b no_t no_i no_k.
-    serves_to_the_end s form held bytes of says script_says labels_say is_map is_script few (λ e. no_b (bring e)) (λ e. no_t (read_map e)) (λ e. no_i (read_script e)) (λ e. no_k (write e))
+serves_complete s form (Some held) (Some bytes) b c t u i j k l of says script_says labels_say bring read_map read_script write = λ is no_b no_t no_i no_k.
+    serves_to_the_end s form held bytes of says script_says labels_say is.map is.script is.labels (λ e. no_b (bring e)) (λ e. no_t (read_map e)) (λ e. no_i (read_script e)) (λ e. no_k (write e))
 
 pub converts_complete : (s : Status) (form to : Form) (holds : Option (List ℕ)) (b c t u k l : ℕ) → IsOfConversion s → IfSome holds (ConversionSays s form to) →
     (s ≡ status.OpenFault → Rose b c) → (s ≡ status.ReadFault which.Map → Rose t u) → (s ≡ status.WriteFault → Rose k l) →

@@ -1,3 +1,4 @@
 pub mod Sums
+pub mod Unwritten
 pub mod Asked
 pub mod Complete

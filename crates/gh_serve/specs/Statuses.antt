@@ -14,7 +14,7 @@ use Rattle.map_import.specs.Refusals.{Laid, roads}
 use Rattle.script_text.specs.declared.script.ScriptRead.{ScriptRead}
 use Rattle.script_text.specs.declared.fault.ScriptFault.TheVariants as script_fault
 use Rattle.script_text.specs.Grammar.{script_of}
-use Rattle.gh_words.specs.Words.{Asked, Serve, Convert}
+use Rattle.gh_words.specs.Words.{Asked, Serve, Convert, Generate}
 use Rattle.gh_serve.specs.Labels.{labels_asked}
 use Rattle.gh_serve.specs.declared.status.MapFault.{MapFault}
 use Rattle.gh_serve.specs.declared.status.MapFault.TheVariants as fault
@@ -22,24 +22,6 @@ use Rattle.gh_serve.specs.declared.status.Status.{Status}
 use Rattle.gh_serve.specs.declared.status.Status.TheVariants as status
 use Rattle.gh_serve.specs.declared.status.Which.TheVariants as which
 use Rattle.gh_serve.specs.declared.status.Quantity.TheVariants as quantity
-
--- a fact of the map's name and form, if the words ask for a map to be served
-abbrev pub IfServes : Option Asked → (List ℕ → Form → Type 0) → Type 0
-IfServes None P = Unit {0}
-IfServes (Some (Serve name form)) P = P name form
-IfServes (Some (Convert name form to)) P = Unit {0}
-
--- a fact of the map's name and of both forms, if they ask for it to be converted
-abbrev pub IfConverts : Option Asked → (List ℕ → Form → Form → Type 0) → Type 0
-IfConverts None P = Unit {0}
-IfConverts (Some (Serve name form)) P = Unit {0}
-IfConverts (Some (Convert name form to)) P = P name form to
-
--- a fact of the map's name, if they ask for either
-abbrev pub IfReads : Option Asked → (List ℕ → Type 0) → Type 0
-IfReads None P = Unit {0}
-IfReads (Some (Serve name form)) P = P name
-IfReads (Some (Convert name form to)) P = P name
 
 -- the map's bytes are not too many
 abbrev pub IsShortMap : List ℕ → Type 0
@@ -155,12 +137,6 @@ IsOfConversion (status.TooLarge quantity.Map limit) = Unit {0}
 IsOfConversion (status.TooLarge quantity.Way limit) = Unit {0}
 IsOfConversion status = ⊥
 
--- the statuses of what the words ask for
-abbrev pub IsStatusOf : Option Asked → Status → Type 0
-IsStatusOf None said = (said ≡ status.Usage) ⊎ (said ≡ status.NoMemory)
-IsStatusOf (Some (Serve name form)) status = IsOfService status
-IsStatusOf (Some (Convert name form to)) status = IsOfConversion status
-
 -- a count of the outside's faults stands as it stood
 abbrev pub IsCalm : ℕ → ℕ → Type 0
 IsCalm before now = Rose before now → ⊥
@@ -202,6 +178,13 @@ IsOfRun status = ⊥
 abbrev pub IsOfAnswering : Status → Type 0
 IsOfAnswering (status.TooLarge quantity.Labels limit) = Unit {0}
 IsOfAnswering status = IsOfRun status
+
+-- the statuses of what the words ask for
+abbrev pub IsStatusOf : Option Asked → Status → Type 0
+IsStatusOf None said = (said ≡ status.Usage) ⊎ (said ≡ status.NoMemory)
+IsStatusOf (Some (Serve name form)) status = IsOfService status
+IsStatusOf (Some (Convert name form to)) status = IsOfConversion status
+IsStatusOf (Some (Generate size)) status = IsOfRun status
 
 -- the statuses after which nothing stands behind the sink's old bytes
 abbrev pub IsUnwritten : Status → Type 0

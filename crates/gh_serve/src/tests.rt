@@ -116,12 +116,36 @@ fn a_route_is_printed_and_an_empty_script_has_a_journal(rt: HostRuntime) -> Resu
 }
 
 #[test]
+fn a_run_made_of_a_size_is_summed_up(rt: HostRuntime) -> Result<(), AllocError> {
+    let case = Case {
+        words: &["generate", "--size", "2"],
+        ..plain_case(b"", b"")
+    };
+    let (text, held) = outcome(&rt, rt.alloc(), &case)?;
+    assert_eq!(rt; text.as_str(), "done");
+    let wanted = "nodes 4\nedges 4\nlandmarks 4\nroutes 16\nentries 5\nweight 3688927\n";
+    assert_eq!(rt; held.as_slice(), wanted.as_bytes());
+    let sink_fails = SECOND.as_slice();
+    let (text, held) = outcome(&rt, rt.alloc(), &Case { sink_fails, ..case })?;
+    assert_eq!(rt; text.as_str(), "gh: cannot write");
+    assert_eq!(rt; held.as_slice(), &wanted.as_bytes()[..5]);
+    Ok(())
+}
+
+#[test]
 fn each_refusal_has_its_text_and_writes_nothing(rt: HostRuntime) -> Result<(), AllocError> {
     let map = MAP.as_bytes();
     let cases = [
         (
             Case {
                 words: &["serve"],
+                ..plain_case(map, b"")
+            },
+            "gh: usage",
+        ),
+        (
+            Case {
+                words: &["generate", "--size", "301"],
                 ..plain_case(map, b"")
             },
             "gh: usage",

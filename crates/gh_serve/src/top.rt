@@ -1,22 +1,26 @@
 //! The top call.
-ghost use Rattle.std.specs.Prelude.{◌≡◌, map, string_bytes, IfSome, None};
+ghost use Rattle.std.specs.Prelude.{◌≡◌, None};
 ghost use Rattle.std.specs.Io.KnownBytes.{Keeps};
 ghost use Rattle.gh_base.specs.Causes.{Rose};
-ghost use Rattle.gh_words.specs.Words.{asked};
-ghost use Rattle.gh_serve.specs.Statuses.{IfServes, IfConverts, IfReads, MapSays, ScriptSays, LabelsSay, IsMap, IsScriptText, AreFewLabels, IsStatusOf, IsSilent, IsCalm, IsDoneOrNoMemory};
+ghost use Rattle.generated_run.specs.Generating.{Generates, GeneratesFront};
+ghost use Rattle.gh_words.specs.Words.{asks};
+ghost use Rattle.gh_serve.specs.Runs.{IfReads, IfGenerates, IfMapServed, IfScriptServed, IfBothServed, IfMapConverted, IsServable};
+ghost use Rattle.gh_serve.specs.Statuses.{MapSays, ScriptSays, LabelsSay, IsStatusOf, IsSilent, IsCalm, IsDoneOrNoMemory};
 ghost use Rattle.gh_serve.specs.declared.status.Which.TheVariants as which;
 ghost use Rattle.gh_serve.specs.Serving.{Serves, ServesFront, ServesPart};
 ghost use Rattle.gh_serve.specs.Converting.{Converts, ConvertsFront, ConvertsPart, ConversionSays, IsConvertible};
 
 use crate::commands::{convert_map, serve_map};
+use crate::generating::generate;
 use crate::status::Status;
 use gh_base::{Files, Gate, Sink, Source};
 use gh_words::{Request, WordsFault, read_words};
 use std::alloc::Global;
 use std::thread::Threads;
 
-/// Does what the words after the program's name ask for: reads the map of that name, and either answers the script
-/// over its roads and writes the replies and the journal, or writes the map in another form.
+/// Does what the words after the program's name ask for: reads the map of that name, and either
+/// answers the script over its roads and writes the replies and the journal, or writes the map in
+/// another form; or answers a script made of a size over roads made of it, and writes the summary.
 pub fn run<R: Threads + Sync, F: Files, I: Source, K: Sink, G: Gate>(
     rt: &R,
     alloc: Global,
@@ -27,73 +31,89 @@ pub fn run<R: Threads + Sync, F: Files, I: Source, K: Sink, G: Gate>(
     gate: &G,
 ) -> Status
     // The claim: what is written answers the script over the map's roads.
-    ensures done { result ≡ Status.Done → IfServes (asked (map (λ w. string_bytes w) words.now)) (λ name form.
-        IfSome (F.holds files.old name) (λ held. IfSome (I.left script.old) (λ bytes.
-        Serves form held bytes (K.held out.old) (K.held out.new)))) }
+    ensures done { result ≡ Status.Done →
+        IfBothServed (asks words.now) (F.holds files.old) (I.left script.old)
+        (λ _ form held bytes. Serves form held bytes (K.held out.old) (K.held out.new)) }
 
     // Or it is the same map in the other form.
-    ensures converted { result ≡ Status.Done → IfConverts (asked (map (λ w.
-        string_bytes w) words.now)) (λ name form to.
-        IfSome (F.holds files.old name) (λ held. Converts form to held (K.held out.old) (K.held out.new))) }
+    ensures converted { result ≡ Status.Done →
+        IfMapConverted (asks words.now) (F.holds files.old)
+        (λ _ form to held. Converts form to held (K.held out.old) (K.held out.new)) }
+
+    // Or the summary of a run made of a size.
+    ensures generated { result ≡ Status.Done →
+        IfGenerates (asks words.now)
+        (λ size. Generates size (K.held out.old) (K.held out.new)) }
 
     // By the words.
-    ensures usage { result ≡ Status.Usage → asked (map (λ w. string_bytes w) words.now) ≡ None }
-    ensures statuses { IsStatusOf (asked (map (λ w. string_bytes w) words.now)) result }
+    ensures usage { result ≡ Status.Usage → asks words.now ≡ None }
+    ensures statuses { IsStatusOf (asks words.now) result }
 
     // By the outside: a call failed in this run.
-    ensures open { result ≡ Status.OpenFault → IfReads (asked (map (λ w. string_bytes w) words.now)) (λ name.
-        Rose (F.failed_brings files.old (F.mark_of files.old name)) (F.failed_brings files.new (F.mark_of files.old name))) }
-    ensures read_map { result ≡ Status.ReadFault which.Map → IfReads (asked (map (λ w.
-        string_bytes w) words.now)) (λ name.
-        Rose (F.failed_takes files.old (F.mark_of files.old name)) (F.failed_takes files.new (F.mark_of files.old name))) }
-    ensures read_script { result ≡ Status.ReadFault which.Script → Rose (I.faults script.old) (I.faults script.new) }
+    ensures open { result ≡ Status.OpenFault → IfReads (asks words.now) (λ name.
+        let mark = F.mark_of files.old name in
+        Rose (F.failed_brings files.old mark) (F.failed_brings files.new mark)) }
+    ensures read_map { result ≡ Status.ReadFault which.Map → IfReads (asks words.now) (λ name.
+        let mark = F.mark_of files.old name in
+        Rose (F.failed_takes files.old mark) (F.failed_takes files.new mark)) }
+    ensures read_script { result ≡ Status.ReadFault which.Script →
+        Rose (I.faults script.old) (I.faults script.new) }
     ensures write { result ≡ Status.WriteFault → Rose (K.faults out.old) (K.faults out.new) }
 
     // By the bytes, where they are told.
-    ensures map { IfServes (asked (map (λ w. string_bytes w) words.now)) (λ name form.
-        IfSome (F.holds files.old name) (MapSays result form)) }
-    ensures script { IfServes (asked (map (λ w. string_bytes w) words.now)) (λ _ _.
-        IfSome (I.left script.old) (ScriptSays result)) }
-    ensures labels { IfServes (asked (map (λ w. string_bytes w) words.now)) (λ name form.
-        IfSome (F.holds files.old name) (λ held. IfSome (I.left script.old) (λ bytes.
-        LabelsSay result form held bytes))) }
-    ensures conversion { IfConverts (asked (map (λ w. string_bytes w) words.now)) (λ name form to.
-        IfSome (F.holds files.old name) (ConversionSays result form to)) }
+    ensures map { IfMapServed (asks words.now) (F.holds files.old) (λ _. MapSays result) }
+    ensures script { IfScriptServed (asks words.now) (I.left script.old) (ScriptSays result) }
+    ensures labels { IfBothServed (asks words.now) (F.holds files.old) (I.left script.old)
+        (λ _. LabelsSay result) }
+    ensures conversion { IfMapConverted (asks words.now) (F.holds files.old)
+        (λ _. ConversionSays result) }
 
-    // Where all bytes are right and no call of the outside failed, nothing but want of memory keeps the run from its end.
-    ensures complete { IfServes (asked (map (λ w. string_bytes w) words.now)) (λ name form.
-        IfSome (F.holds files.old name) (λ held. IfSome (I.left script.old) (λ bytes.
-        IsMap form held → IsScriptText bytes → AreFewLabels form held bytes →
-        IsCalm (F.failed_brings files.old (F.mark_of files.old name)) (F.failed_brings files.new (F.mark_of files.old name)) →
-        IsCalm (F.failed_takes files.old (F.mark_of files.old name)) (F.failed_takes files.new (F.mark_of files.old name)) →
-        IsCalm (I.faults script.old) (I.faults script.new) → IsCalm (K.faults out.old) (K.faults out.new) → IsDoneOrNoMemory result))) }
-    ensures converted_complete { IfConverts (asked (map (λ w. string_bytes w) words.now)) (λ name form to.
-        IfSome (F.holds files.old name) (λ held.
-        IsConvertible form to held → IsCalm (F.failed_brings files.old (F.mark_of files.old name)) (F.failed_brings files.new (F.mark_of files.old name)) →
-        IsCalm (F.failed_takes files.old (F.mark_of files.old name)) (F.failed_takes files.new (F.mark_of files.old name)) →
-        IsCalm (K.faults out.old) (K.faults out.new) → IsDoneOrNoMemory result)) }
+    // Where all bytes are right and no call of the outside failed, nothing but want of memory
+    // keeps the run from its end.
+    ensures complete { IfBothServed (asks words.now) (F.holds files.old) (I.left script.old)
+        (λ name form held bytes. let mark = F.mark_of files.old name in
+        IsServable form held bytes →
+        IsCalm (F.failed_brings files.old mark) (F.failed_brings files.new mark) →
+        IsCalm (F.failed_takes files.old mark) (F.failed_takes files.new mark) →
+        IsCalm (I.faults script.old) (I.faults script.new) →
+        IsCalm (K.faults out.old) (K.faults out.new) → IsDoneOrNoMemory result) }
+    ensures converted_complete { IfMapConverted (asks words.now) (F.holds files.old)
+        (λ name form to held. let mark = F.mark_of files.old name in
+        IsConvertible form to held →
+        IsCalm (F.failed_brings files.old mark) (F.failed_brings files.new mark) →
+        IsCalm (F.failed_takes files.old mark) (F.failed_takes files.new mark) →
+        IsCalm (K.faults out.old) (K.faults out.new) → IsDoneOrNoMemory result) }
+    ensures generated_complete { IfGenerates (asks words.now) (λ _.
+        IsCalm (K.faults out.old) (K.faults out.new) → IsDoneOrNoMemory result) }
 
-    // What stands behind the sink's old bytes else: a front of such a text, whole phases of it, or nothing.
-    ensures front { result ≡ Status.WriteFault → IfServes (asked (map (λ w. string_bytes w) words.now)) (λ name form.
-        IfSome (F.holds files.old name) (λ held. IfSome (I.left script.old) (λ bytes.
-        ServesFront form held bytes (K.held out.old) (K.held out.new)))) }
-    ensures part { result ≡ Status.NoMemory → IfServes (asked (map (λ w. string_bytes w) words.now)) (λ name form.
-        IfSome (F.holds files.old name) (λ held. IfSome (I.left script.old) (λ bytes.
-        ServesPart form held bytes (K.held out.old) (K.held out.new)))) }
-    ensures converted_front { result ≡ Status.WriteFault → IfConverts (asked (map (λ w.
-        string_bytes w) words.now)) (λ name form to.
-        IfSome (F.holds files.old name) (λ held. ConvertsFront form to held (K.held out.old) (K.held out.new))) }
-    ensures converted_part { result ≡ Status.NoMemory → IfConverts (asked (map (λ w.
-        string_bytes w) words.now)) (λ name form to.
-        IfSome (F.holds files.old name) (λ held. ConvertsPart form to held (K.held out.old) (K.held out.new))) }
-    ensures nothing { IsSilent (asked (map (λ w. string_bytes w) words.now)) result →
-        Keeps (K.held out.old) (K.held out.new) }
+    // What stands behind the sink's old bytes else: a front of such a text, whole phases of it,
+    // or nothing.
+    ensures front { result ≡ Status.WriteFault →
+        IfBothServed (asks words.now) (F.holds files.old) (I.left script.old)
+        (λ _ form held bytes. ServesFront form held bytes (K.held out.old) (K.held out.new)) }
+    ensures part { result ≡ Status.NoMemory →
+        IfBothServed (asks words.now) (F.holds files.old) (I.left script.old)
+        (λ _ form held bytes. ServesPart form held bytes (K.held out.old) (K.held out.new)) }
+    ensures converted_front { result ≡ Status.WriteFault →
+        IfMapConverted (asks words.now) (F.holds files.old)
+        (λ _ form to held. ConvertsFront form to held (K.held out.old) (K.held out.new)) }
+    ensures converted_part { result ≡ Status.NoMemory →
+        IfMapConverted (asks words.now) (F.holds files.old)
+        (λ _ form to held. ConvertsPart form to held (K.held out.old) (K.held out.new)) }
+    ensures generated_front { result ≡ Status.WriteFault →
+        IfGenerates (asks words.now)
+        (λ size. GeneratesFront size (K.held out.old) (K.held out.new)) }
+    ensures generated_part { result ≡ Status.NoMemory →
+        IfGenerates (asks words.now)
+        (λ _. Keeps (K.held out.old) (K.held out.new)) }
+    ensures nothing { IsSilent (asks words.now) result → Keeps (K.held out.old) (K.held out.new) }
 {
     match read_words(alloc, words) {
         Ok(Request::Serve { map, form }) => serve_map(
             rt, alloc, files, map, form, script, out, gate,
         ),
         Ok(Request::Convert { map, form, to }) => convert_map(alloc, files, map, form, to, out),
+        Ok(Request::Generate { size }) => generate(rt, alloc, size, out, gate),
         Err(WordsFault::Usage) => Status::Usage,
         Err(WordsFault::NoMemory) => Status::NoMemory,
     }

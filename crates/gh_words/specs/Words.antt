@@ -1,24 +1,26 @@
 -- What the words of a command line ask for: those after the program's name.
-use Rattle.std.specs.Prelude.{ℕ, List, [], ◌∷◌, Option, Some, None, Bool, true, ◌||◌, codes, if◌then◌else◌}
+use Rattle.std.specs.Prelude.{ℕ, ◌≤◌, List, [], ◌∷◌, Option, Some, None, String, Bool, true, false, ◌||◌, ◌&&◌, ◌==◌, nat_le, codes, map, string_bytes, if◌then◌else◌}
 use Rattle.std.specs.Str.{bytes_eq}
 use Rattle.std.specs.List.{list_any}
 use Rattle.clap.specs.Words.{App, Kinds, Row, Rule, Text as Word, fault_of, first_of, matches_of, new_app, new_rule, with_rule}
 use Rattle.clap.specs.declared.builder.action.ArgAction.TheVariants.{Set}
-use Rattle.gh_base.specs.Decimals.{◌>>=◌}
+use Rattle.gh_base.specs.Decimals.{◌>>=◌, natural_of}
 use Rattle.gh_base.specs.declared.kinds.Form.{Form}
 use Rattle.gh_base.specs.declared.kinds.Form.TheVariants.{Plain, Pbf}
 use Rattle.gh_words.specs.declared.request.Request.{Request}
 use Rattle.gh_words.specs.declared.request.Request.TheVariants as request
 
--- to serve queries from the map of a name, in a form; or to write that map in a form
+-- to serve queries from the map of a name, in a form; to write that map in a form; or to answer a script made of a size
 pub data Asked : Type 0 where
   Serve : (map : List ℕ) → (form : Form) → Asked
   Convert : (map : List ℕ) → (form : Form) → (to : Form) → Asked
+  Generate : (size : ℕ) → Asked
 
 -- what a request says
 abbrev pub asked_by : Request → Asked
 asked_by (request.Serve map form) = Serve map.now form
 asked_by (request.Convert map form to) = Convert map.now form to
+asked_by (request.Generate size) = Generate size
 
 -- an option that stands exactly once, and has one value
 abbrev pub option_of : Word → Rule
@@ -41,6 +43,10 @@ serve_app = map_app (codes "serve")
 -- the command `convert`, to clap
 abbrev pub convert_app : App
 convert_app = with_rule (map_app (codes "convert")) (option_of (codes "to"))
+
+-- the command `generate`, to clap
+abbrev pub generate_app : App
+generate_app = with_rule (bare_app (codes "generate")) (option_of (codes "size"))
 
 -- a word that is nothing but one or two minus signs
 abbrev pub is_dashes : Word → Bool
@@ -73,6 +79,32 @@ map_in rows = first_of (codes "map") rows >>= name_of
 abbrev pub form_in : Word → List Row → Option Form
 form_in option rows = first_of option rows >>= form_of
 
+-- a number from 2 to 300
+pub record IsSize (n : ℕ) : Type 0 where
+  pub least : 2 ≤ n
+  pub most : n ≤ 300
+
+-- what is generated is of such a size
+abbrev pub IsOfSize : Request → Type 0
+IsOfSize (request.Generate size) = IsSize size
+IsOfSize request = Unit {0}
+
+abbrev pub begins_with_zero : Word → Bool
+begins_with_zero [] = false
+begins_with_zero (b ∷ bytes) = b == 48
+
+-- the number, where it is from 2 to 300
+abbrev pub as_size : ℕ → Option ℕ
+as_size n = if nat_le 2 n && nat_le n 300 then Some n else None
+
+-- the size that a word spells, in digits alone and without leading zeros
+abbrev pub size_of : Word → Option ℕ
+size_of word = if begins_with_zero word then None else natural_of 3 word >>= as_size
+
+-- the size among the options
+abbrev pub size_in : List Row → Option ℕ
+size_in rows = first_of (codes "size") rows >>= size_of
+
 -- what the options of `serve` say
 abbrev pub serve_in : List Row → Option Asked
 serve_in rows = do
@@ -88,6 +120,12 @@ convert_in rows = do
   to ← form_in (codes "to") rows
   Some (Convert map form to)
 
+-- what the options of `generate` say
+abbrev pub generate_in : List Row → Option Asked
+generate_in rows = do
+  size ← size_in rows
+  Some (Generate size)
+
 -- what the words of `serve` ask for, itself the first of them
 unfoldable pub serve_asked : List Word → Option Asked
 serve_asked words = found_in serve_app words >>= serve_in
@@ -96,10 +134,19 @@ serve_asked words = found_in serve_app words >>= serve_in
 unfoldable pub convert_asked : List Word → Option Asked
 convert_asked words = found_in convert_app words >>= convert_in
 
+-- what the words of `generate` ask for, alike
+unfoldable pub generate_asked : List Word → Option Asked
+generate_asked words = found_in generate_app words >>= generate_in
+
 -- what the words ask for, by the first of them; none where they are refused
 unfoldable pub asked : List Word → Option Asked
 asked [] = None
 asked (first ∷ words) =
     if bytes_eq first (codes "serve") then serve_asked (first ∷ words)
     else if bytes_eq first (codes "convert") then convert_asked (first ∷ words)
+    else if bytes_eq first (codes "generate") then generate_asked (first ∷ words)
     else None
+
+-- what the words of a command line ask for
+abbrev pub asks : {Z : Type 0} → List (String Z) → Option Asked
+asks words = asked (map string_bytes words)

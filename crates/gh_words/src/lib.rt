@@ -1,11 +1,12 @@
 //! The words of the command line, read with clap.
 //!
-//! Promises: the words are refused exactly where `asked` of `specs/Words.antt` is none, and else the request is what it
+//! Promises: the words are refused exactly where `asks` of `specs/Words.antt` is none, and else the request is what it
 //! says: clap's own definition of one simple command, and the few refusals that this program adds. Only want of memory
 //! can hide an answer.
 #![tactic(auto)]
 
 mod convert;
+mod generate;
 mod options;
 mod request;
 mod serve;

@@ -3,7 +3,7 @@ ghost use Rattle.std.specs.Prelude.{◌≡◌, ◌≢◌, IfOk, IsErrOf, map, st
 ghost use Rattle.std.specs.List.{list_any};
 ghost use Rattle.std.specs.Option.{option_map};
 ghost use Rattle.clap.specs.Words.{app_of, first_of, found_of, is_simple_and_free, kind_of, rows_of, with_rule};
-ghost use Rattle.gh_words.specs.Words.{map_app, option_of, found_in, map_in, form_in, name_of, form_of, is_dashes};
+ghost use Rattle.gh_words.specs.Words.{bare_app, map_app, option_of, found_in, map_in, form_in, name_of, form_of, is_dashes};
 
 use crate::request::WordsFault;
 use clap::error::ErrorKind;
@@ -26,14 +26,20 @@ pub(crate) fn with_option<'a>(
     command.arg(option)
 }
 
+/// The command of this name, with no options yet.
+pub(crate) fn bare_command<'a>(alloc: Global, name: &'a str) -> Command<'a>
+    ensures { app_of result ≡ bare_app name.entry.now }
+{
+    Command::new(alloc, name)
+        .disable_help_flag(true)
+        .disable_version_flag(true)
+}
+
 /// The command of this name on a map in a form.
 pub(crate) fn map_command<'a>(alloc: Global, name: &'a str) -> Result<Command<'a>, AllocError>
     ensures { IfOk result (λ c. app_of c ≡ map_app name.entry.now) }
 {
-    let command = Command::new(alloc, name)
-        .disable_help_flag(true)
-        .disable_version_flag(true);
-    let command = with_option(alloc, command, "map")?;
+    let command = with_option(alloc, bare_command(alloc, name), "map")?;
     with_option(alloc, command, "form")
 }
 
@@ -82,7 +88,7 @@ pub(crate) fn find_options<'a>(
 }
 
 /// The value of an option.
-fn value_given<'a>(matches: &ArgMatches<'a>, option: &str) -> Option<&'a str>
+pub(crate) fn value_given<'a>(matches: &ArgMatches<'a>, option: &str) -> Option<&'a str>
     ensures { option_map (λ s. s.now) result ≡ first_of option.now (rows_of (found_of matches.now)) }
 {
     matches.get_str(option)

@@ -10,6 +10,8 @@ pub enum Request<'a> {
     Serve { map: &'a str, form: Form },
     /// To write the map of this name, which is in `form`, in the form `to`.
     Convert { map: &'a str, form: Form, to: Form },
+    /// To answer a script over a grid of `size` rows and columns, both made of this number, and write a summary.
+    Generate { size: u32 },
 }
 
 /// Why words are no request.

@@ -49,6 +49,25 @@ fn right_lines_are_taken(rt: HostRuntime) -> Result<(), Fail> {
 }
 
 #[test]
+fn sizes_are_taken(rt: HostRuntime) -> Result<(), Fail> {
+    for (line, size) in [
+        ("generate --size 2", 2),
+        ("generate --size=9", 9),
+        ("generate --size 10", 10),
+        ("generate --size 99", 99),
+        ("generate --size=100", 100),
+        ("generate --size 300", 300),
+    ] {
+        let words = owned(rt.alloc(), line)?;
+        match read_words(rt.alloc(), &words) {
+            Ok(read) => assert_eq!(rt; read, Request::Generate { size }, "{line}"),
+            Err(_) => assert!(rt; false, "{line}"),
+        }
+    }
+    Ok(())
+}
+
+#[test]
 fn other_lines_are_usage(rt: HostRuntime) -> Result<(), Fail> {
     for line in [
         "",
@@ -81,6 +100,31 @@ fn other_lines_are_usage(rt: HostRuntime) -> Result<(), Fail> {
         "convert --map m --form plain --to pbf -h",
         "convert --map m --form plain --to pbf --",
         "convert --map m --form plain --to pbf more",
+        "generate",
+        "generate --size",
+        "generate --size=",
+        "generate --size ",
+        "generate --size 0",
+        "generate --size 1",
+        "generate --size 301",
+        "generate --size 999",
+        "generate --size 1000",
+        "generate --size 4294967298",
+        "generate --size 007",
+        "generate --size 02",
+        "generate --size +5",
+        "generate --size -5",
+        "generate --size=-5",
+        "generate --size 5.0",
+        "generate --size 5x",
+        "generate --size x",
+        "generate --size 5 --size 5",
+        "generate --size 5 more",
+        "generate --size 5 --",
+        "generate --size 5 --help",
+        "generate --size 5 --map m",
+        "generate --map m --form plain",
+        "serve --size 5",
     ] {
         let words = owned(rt.alloc(), line)?;
         match read_words(rt.alloc(), &words) {

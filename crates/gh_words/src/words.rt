@@ -1,22 +1,26 @@
 //! The words of the command line.
-ghost use Rattle.std.specs.Prelude.{◌≡◌, IfOk, IsErrOf, map, string_bytes, None, Some};
-ghost use Rattle.gh_words.specs.Words.{asked, asked_by};
+ghost use Rattle.std.specs.Prelude.{◌≡◌, IfOk, IsErrOf, None, Some};
+ghost use Rattle.gh_words.specs.Words.{IsOfSize, asks, asked_by};
 
 use crate::convert::read_convert;
+use crate::generate::read_generate;
 use crate::request::{Request, WordsFault};
 use crate::serve::read_serve;
 use std::alloc::Global;
 
 /// What the words after the program's name ask for. The first word chooses the command; its options stand in any order,
-/// each exactly once, as `--map NAME` or `--map=NAME`. `Usage` comes exactly where the words ask for nothing.
+/// each exactly once, as `--map NAME` or `--map=NAME`. `Usage` comes exactly where the words ask for nothing. A size that is
+/// asked for is from 2 to 300.
 #[tactic(auto, unfolding(crate::specs::Words::asked))]
 pub fn read_words<'a>(alloc: Global, words: &'a [String]) -> Result<Request<'a>, WordsFault>
-    ensures request { IfOk result (λ r. asked (map (λ w. string_bytes w) words.entry.now) ≡ Some (asked_by r)) }
-    ensures usage { IsErrOf result WordsFault.Usage → asked (map (λ w. string_bytes w) words.entry.now) ≡ None }
+    ensures request { IfOk result (λ r. asks words.entry.now ≡ Some (asked_by r)) }
+    ensures size { IfOk result IsOfSize }
+    ensures usage { IsErrOf result WordsFault.Usage → asks words.entry.now ≡ None }
 {
     match words {
         [first, ..] if first.as_str() == "serve" => read_serve(alloc, words),
         [first, ..] if first.as_str() == "convert" => read_convert(alloc, words),
+        [first, ..] if first.as_str() == "generate" => read_generate(alloc, words),
         _ => Err(WordsFault::Usage),
     }
 }

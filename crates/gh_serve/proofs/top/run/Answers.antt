@@ -1,5 +1,8 @@
+use Rattle.std.proofs.Common.{subst}
 use Rattle.gh_serve.proofs.top.run.Goals as goal
+use Rattle.gh_words.specs.Words.{IsOfSize}
 use Rattle.gh_serve.proofs.Complete.{serves_complete, converts_complete}
+use Rattle.gh_serve.proofs.Unwritten.{never_unwritten}
 
 pub returns-in-Ok-Serve-clause-complete : goal.returns-in-Ok-Serve-clause-complete
 returns-in-Ok-Serve-clause-complete g c =
@@ -8,3 +11,13 @@ returns-in-Ok-Serve-clause-complete g c =
 pub returns-in-Ok-Convert-clause-converted_complete : goal.returns-in-Ok-Convert-clause-converted_complete
 returns-in-Ok-Convert-clause-converted_complete g c =
     rw (c.in-Ok-Convert.ensures.request, c.in-Ok-Convert.field-0-is) (converts_complete c.convert_map.result c.in-Ok-Convert.form c.in-Ok-Convert.to _ _ _ _ _ _ _ c.convert_map.ensures.statuses c.convert_map.ensures.map c.convert_map.ensures.open c.convert_map.ensures.read c.convert_map.ensures.write)
+
+pub generate-requires-clause-two : goal.generate-requires-clause-two
+generate-requires-clause-two g c = λ _ _. (subst IsOfSize c.in-Ok-Generate.field-0-is c.in-Ok-Generate.ensures.size).least
+
+pub generate-requires-clause-few : goal.generate-requires-clause-few
+generate-requires-clause-few g c = λ _ _. (subst IsOfSize c.in-Ok-Generate.field-0-is c.in-Ok-Generate.ensures.size).most
+
+pub returns-in-Ok-Generate-clause-nothing : goal.returns-in-Ok-Generate-clause-nothing
+returns-in-Ok-Generate-clause-nothing g c =
+    rw c.in-Ok-Generate.ensures.request (λ unwritten. absurd (never_unwritten c.generate.result c.generate.ensures.statuses unwritten))

@@ -10,4 +10,4 @@ unfolding convert_asked
 returns-clause-request c =
     let found : found_in convert_app (map (λ w. string_bytes w) c.args.words.now) ≡ Some (rows_of (found_of c.in_ok-matches.matches))
     = subst (λ a. found_in a (map (λ w. string_bytes w) c.args.words.now) ≡ Some (rows_of (found_of c.in_ok-matches.matches))) c.in_ok-convert_command.ensures c.in_ok-matches.ensures.found in
-    rw c.ok_or.ensures.value (answered _ convert_in (rows_of (found_of c.in_ok-matches.matches)) c.convert_given.result Usage found c.convert_given.ensures)
+    rw c.ok_or.ensures.value (answered _ convert_in (rows_of (found_of c.in_ok-matches.matches)) c.convert_given.result Usage found c.convert_given.ensures.given)

@@ -10,4 +10,4 @@ unfolding serve_asked
 returns-clause-request c =
     let found : found_in serve_app (map (λ w. string_bytes w) c.args.words.now) ≡ Some (rows_of (found_of c.in_ok-matches.matches))
     = subst (λ a. found_in a (map (λ w. string_bytes w) c.args.words.now) ≡ Some (rows_of (found_of c.in_ok-matches.matches))) c.in_ok-map_command.ensures c.in_ok-matches.ensures.found in
-    rw c.ok_or.ensures.value (answered _ serve_in (rows_of (found_of c.in_ok-matches.matches)) c.serve_given.result Usage found c.serve_given.ensures)
+    rw c.ok_or.ensures.value (answered _ serve_in (rows_of (found_of c.in_ok-matches.matches)) c.serve_given.result Usage found c.serve_given.ensures.given)

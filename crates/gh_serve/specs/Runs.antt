@@ -1,0 +1,48 @@
+-- What the words of a run ask for, and facts of what is known of it.
+use Rattle.std.specs.Prelude.{ℕ, List, Option, Some, IfSome}
+use Rattle.gh_base.specs.declared.kinds.Form.{Form}
+use Rattle.gh_words.specs.Words.{Asked, Serve, Convert, Generate}
+use Rattle.gh_serve.specs.Statuses.{IsMap, IsScriptText, AreFewLabels}
+
+-- a fact of the map's name and form, if the words ask for a map to be served
+abbrev pub IfServes : Option Asked → (List ℕ → Form → Type 0) → Type 0
+IfServes (Some (Serve name form)) P = P name form
+IfServes other P = Unit {0}
+
+-- a fact of the map's name and of both forms, if they ask for it to be converted
+abbrev pub IfConverts : Option Asked → (List ℕ → Form → Form → Type 0) → Type 0
+IfConverts (Some (Convert name form to)) P = P name form to
+IfConverts other P = Unit {0}
+
+-- a fact of the map's name, if they ask for either
+abbrev pub IfReads : Option Asked → (List ℕ → Type 0) → Type 0
+IfReads (Some (Serve name form)) P = P name
+IfReads (Some (Convert name form to)) P = P name
+IfReads other P = Unit {0}
+
+-- a fact of the size, if they ask for a run made of one
+abbrev pub IfGenerates : Option Asked → (ℕ → Type 0) → Type 0
+IfGenerates (Some (Generate size)) P = P size
+IfGenerates other P = Unit {0}
+
+-- a fact of the map's bytes too, where a map is to be served and what its name holds is known
+abbrev pub IfMapServed : Option Asked → (List ℕ → Option (List ℕ)) → (List ℕ → Form → List ℕ → Type 0) → Type 0
+IfMapServed asked holds P = IfServes asked (λ name form. IfSome (holds name) (P name form))
+
+-- of the script's bytes, where these are known
+abbrev pub IfScriptServed : Option Asked → Option (List ℕ) → (List ℕ → Type 0) → Type 0
+IfScriptServed asked left P = IfServes asked (λ name form. IfSome left P)
+
+-- of the bytes of both, where both are known
+abbrev pub IfBothServed : Option Asked → (List ℕ → Option (List ℕ)) → Option (List ℕ) → (List ℕ → Form → List ℕ → List ℕ → Type 0) → Type 0
+IfBothServed asked holds left P = IfMapServed asked holds (λ name form held. IfSome left (P name form held))
+
+-- alike where a map is to be converted
+abbrev pub IfMapConverted : Option Asked → (List ℕ → Option (List ℕ)) → (List ℕ → Form → Form → List ℕ → Type 0) → Type 0
+IfMapConverted asked holds P = IfConverts asked (λ name form to. IfSome (holds name) (P name form to))
+
+-- map and script are right, and ask for no more labels than a run takes
+pub record IsServable (form : Form) (map_bytes script_bytes : List ℕ) : Type 0 where
+  pub map : IsMap form map_bytes
+  pub script : IsScriptText script_bytes
+  pub labels : AreFewLabels form map_bytes script_bytes
