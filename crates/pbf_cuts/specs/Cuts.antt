@@ -8,14 +8,14 @@ use Rattle.pbf_wire.specs.Runs.{run_of}
 use Rattle.pbf_wire.specs.Pieces.{scalar_of}
 use Rattle.pbf_wire.specs.Files.{reads}
 
--- where the blob at a place ends: four bytes tell how long its BlobHeader is, and that tells, as datasize=3, how long its Blob is
+-- where a blob ends: four bytes are the length of its BlobHeader, whose datasize=3 is that of its Blob
 unfoldable pub blob_end : List ℕ → ℕ → Option ℕ
 blob_end file at =
     let start = at + 4 in
     let end = start + big_number 4 (drop at file) in
     option_map (λ datasize. end + datasize) (scalar_of 3 None (run_of (take end file) start).fields)
 
--- where the last of so many blobs ends: the first begins at a place, and each other where the one before it ends
+-- where so many blobs end, each of which begins where the one before it ends
 abbrev pub blobs_end : ℕ → List ℕ → ℕ → Option ℕ
 blobs_end zero file at = Some at
 blobs_end (suc blobs) file at = option_and_then (blobs_end blobs file) (blob_end file at)
@@ -34,7 +34,7 @@ pub record IsFirstOf (part whole : OsmMap) : Type 0 where
   pub nodes : Begins part.nodes whole.nodes
   pub ways : Begins part.ways whole.ways
 
--- the first so many bytes of a file are read exactly where a blob ends, and then as the first nodes and ways of its map; else they are Truncated at their length, or have no header where there are none
+-- the first n bytes are read exactly where a blob ends, as the first nodes and ways; else they are cut
 pub record IsToldAt (file : List ℕ) (whole : OsmMap) (n : ℕ) : Type 0 where
   pub read : IsOk (reads (take n file)) ↔ IsBlobEnd file n
   pub part : IfOk (reads (take n file)) (λ part. IsFirstOf part whole)
@@ -43,4 +43,5 @@ pub record IsToldAt (file : List ℕ) (whole : OsmMap) (n : ℕ) : Type 0 where
 
 -- of a file that is read, each front is told so
 abbrev pub FrontsAreTold : Type 0
-FrontsAreTold = (file : List ℕ) (whole : OsmMap) → reads file ≡ Ok whole → (n : ℕ) → n ≤ length file → IsToldAt file whole n
+FrontsAreTold = (file : List ℕ) (whole : OsmMap) → reads file ≡ Ok whole →
+    (n : ℕ) → n ≤ length file → IsToldAt file whole n
