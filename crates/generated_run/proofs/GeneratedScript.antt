@@ -9,7 +9,7 @@ use Rattle.script_text.specs.declared.script.Line.{Line}
 use Rattle.script_text.specs.Names.{is_name}
 use Rattle.script_text.specs.Scripts.{AreActors, AreNumbered, IsLine, IsScript, lines_of, turns_of}
 use Rattle.generated_run.specs.Scripts.{lowering_at, names, phases_of, preparing, profiles, publishing, route_at, script_of}
-use Rattle.generated_run.proofs.DefaultProfile.{default_profile}
+use Rattle.script_text.proofs.Models.{default_profile}
 
 -- lines behind others, each with the number that it has there
 abbrev go_on : List Line → List Line → Bool

@@ -17,7 +17,6 @@ pub mod ActsMore
 pub mod JoinedParts
 pub mod SeatsBack
 pub mod AcceptedCount
-pub mod AskedPlaces
 pub mod KnowsMore
 pub mod SeatRows
 pub mod CommandFollows

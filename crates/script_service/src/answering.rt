@@ -39,7 +39,6 @@ fn take_model<J: Naming>(
 }
 
 /// A least walk under the rule in force after the entries of the seat's list, or why there is none to print.
-#[tactic(auto, using(crate::proofs::AskedPlaces::asked_place))]
 fn ask_route<J: Naming>(
     seat: &Seat<'_, '_, J>,
     session: &Session,

@@ -6,7 +6,7 @@ use Rattle.landmark_prep.specs.Preparations.{Preparation}
 use Rattle.traffic_core.specs.declared.entry.Entry.{Entry}
 use Rattle.weighting.specs.Profiles.{profile_at}
 use Rattle.traffic_core.specs.Lands.{Land}
-use Rattle.traffic_core.specs.Places.{IsPlace}
+use Rattle.gh_base.specs.Places.{IsPlace}
 use Rattle.traffic_core.specs.History.{limit_after, IsGuide}
 use Rattle.traffic_core.specs.Answers.{Asked, IsRightAnswer}
 
