@@ -12,6 +12,4 @@ mod model_eval_statements;
 #[cfg(test)]
 mod model_parser_calls;
 #[cfg(test)]
-mod model_texts_calls;
-#[cfg(test)]
 mod weighting_calls;

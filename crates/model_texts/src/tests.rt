@@ -1,7 +1,7 @@
 //! Texts and what they are read as.
+use crate::{BadText, ConditionFault, ModelKind, Verb, action_of, read_condition};
 use gh_base::{NoMemory, Text};
 use model_eval::{Action, Area, NumberName, Op, RingList, Running, Test};
-use model_texts::{BadText, ConditionFault, ModelKind, Verb, action_of, read_condition};
 use std::alloc::Global;
 use std::test::Fail;
 
