@@ -179,6 +179,12 @@ abbrev pub IsOfAnswering : Status → Type 0
 IsOfAnswering (status.TooLarge quantity.Labels limit) = Unit {0}
 IsOfAnswering status = IsOfRun status
 
+-- those that writing roads gives, which reads no script
+abbrev pub IsOfRoads : Status → Type 0
+IsOfRoads status.Done = Unit {0}
+IsOfRoads status.WriteFault = Unit {0}
+IsOfRoads status = IsOfMap status
+
 -- the statuses of what the words ask for
 abbrev pub IsStatusOf : Option Asked → Status → Type 0
 IsStatusOf None said = (said ≡ status.Usage) ⊎ (said ≡ status.NoMemory)
