@@ -5,7 +5,7 @@ use Rattle.gh_base.specs.Causes.{Rose}
 use Rattle.gh_base.specs.declared.kinds.Form.{Form}
 use Rattle.gh_base.specs.declared.kinds.Form.TheVariants as forms
 use Rattle.gh_base.specs.declared.map.OsmMap.{OsmMap}
-use Rattle.gh_serve.specs.Statuses.{ReadsAs, IsFaultOf, IsMap, IsScriptText, AsksLabels, AreFewLabels, AreManyLabels, IsOfService, IsOfConversion, MapSays, ScriptSays, LabelsSay, IsCalm, IsDoneOrNoMemory}
+use Rattle.gh_serve.specs.Statuses.{ReadsAs, IsFaultOf, IsMap, IsScriptText, AsksLabels, AreFewLabels, AreManyLabels, IsOfService, IsOfConversion, IsOfRoads, MapSays, ScriptSays, LabelsSay, IsCalm, IsDoneOrNoMemory}
 use Rattle.gh_serve.specs.Runs.{IsServable}
 use Rattle.gh_serve.specs.Converting.{IsConvertible, ConversionSays}
 use Rattle.gh_serve.specs.declared.status.MapFault.{MapFault}
@@ -103,6 +103,23 @@ converts_to_the_end (status.TooLarge quantity.Labels limit) form to held of says
 converts_to_the_end (status.BadMap (fault.Plain line byte kind)) forms.Pbf to held of says is no_open no_map no_write = absurd (says.1)
 converts_to_the_end (status.BadMap (fault.Pbf byte kind)) forms.Plain to held of says is no_open no_map no_write = absurd (says.1)
 
+-- nor of what writing roads ends with
+pub tells_to_the_end : (s : Status) (form : Form) (held : List ℕ) → IsOfRoads s → MapSays s form held → IsMap form held →
+    (s ≡ status.OpenFault → ⊥) → (s ≡ status.ReadFault which.Map → ⊥) → (s ≡ status.WriteFault → ⊥) → IsDoneOrNoMemory s
+tells_to_the_end status.Done form held of says is no_open no_map no_write = inl refl
+tells_to_the_end status.NoMemory form held of says is no_open no_map no_write = inr refl
+tells_to_the_end status.OpenFault form held of says is no_open no_map no_write = absurd (no_open refl)
+tells_to_the_end (status.ReadFault which.Map) form held of says is no_open no_map no_write = absurd (no_map refl)
+tells_to_the_end status.WriteFault form held of says is no_open no_map no_write = absurd (no_write refl)
+tells_to_the_end (status.BadMap f) form held of says is no_open no_map no_write = absurd (no_fault f form held is says.1)
+tells_to_the_end (status.TooLarge quantity.Map limit) form held of says is no_open no_map no_write = absurd (let short = is.short in omega (arith, says.0, says.1))
+tells_to_the_end status.Usage form held of says is no_open no_map no_write = absurd of
+tells_to_the_end (status.ReadFault which.Script) form held of says is no_open no_map no_write = absurd of
+tells_to_the_end (status.BadScript line byte kind) form held of says is no_open no_map no_write = absurd of
+tells_to_the_end (status.TooLarge quantity.Script limit) form held of says is no_open no_map no_write = absurd of
+tells_to_the_end (status.TooLarge quantity.Labels limit) form held of says is no_open no_map no_write = absurd of
+tells_to_the_end (status.TooLarge quantity.Way limit) form held of says is no_open no_map no_write = absurd of
+
 -- with the bytes where they are told, and the counts
 pub serves_complete : (s : Status) (form : Form) (holds left : Option (List ℕ)) (b c t u i j k l : ℕ) → IsOfService s → IfSome holds (MapSays s form) → IfSome left (ScriptSays s) →
     IfSome holds (λ held. IfSome left (λ bytes. LabelsSay s form held bytes)) →
@@ -120,3 +137,10 @@ pub converts_complete : (s : Status) (form to : Form) (holds : Option (List ℕ)
 converts_complete s form to None b c t u k l of says bring read write = tt
 converts_complete s form to (Some held) b c t u k l of says bring read write = λ is no_b no_t no_k.
     converts_to_the_end s form to held of says is (λ e. no_b (bring e)) (λ e. no_t (read e)) (λ e. no_k (write e))
+
+pub tells_complete : (s : Status) (form : Form) (holds : Option (List ℕ)) (b c t u k l : ℕ) → IsOfRoads s → IfSome holds (MapSays s form) →
+    (s ≡ status.OpenFault → Rose b c) → (s ≡ status.ReadFault which.Map → Rose t u) → (s ≡ status.WriteFault → Rose k l) →
+    IfSome holds (λ held. IsMap form held → IsCalm b c → IsCalm t u → IsCalm k l → IsDoneOrNoMemory s)
+tells_complete s form None b c t u k l of says bring read write = tt
+tells_complete s form (Some held) b c t u k l of says bring read write = λ is no_b no_t no_k.
+    tells_to_the_end s form held of says is (λ e. no_b (bring e)) (λ e. no_t (read e)) (λ e. no_k (write e))

@@ -2,3 +2,4 @@ pub mod Sums
 pub mod Unwritten
 pub mod Asked
 pub mod Complete
+pub mod LinesBehind

@@ -1,5 +1,6 @@
 pub mod Converting
 pub mod Labels
+pub mod Roads
 pub mod Runs
 pub mod Serving
 pub mod Statuses

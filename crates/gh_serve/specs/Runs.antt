@@ -1,7 +1,7 @@
 -- What the words of a run ask for, and facts of what is known of it.
 use Rattle.std.specs.Prelude.{ℕ, List, Option, Some, IfSome}
 use Rattle.gh_base.specs.declared.kinds.Form.{Form}
-use Rattle.gh_words.specs.Words.{Asked, Serve, Convert, Generate}
+use Rattle.gh_words.specs.Words.{Asked, Serve, Convert, Generate, Roads}
 use Rattle.gh_serve.specs.Statuses.{IsMap, IsScriptText, AreFewLabels}
 
 -- a fact of the map's name and form, if the words ask for a map to be served
@@ -14,10 +14,16 @@ abbrev pub IfConverts : Option Asked → (List ℕ → Form → Form → Type 0)
 IfConverts (Some (Convert name form to)) P = P name form to
 IfConverts other P = Unit {0}
 
--- a fact of the map's name, if they ask for either
+-- a fact of the map's name and form, if they ask for its roads
+abbrev pub IfTellsRoads : Option Asked → (List ℕ → Form → Type 0) → Type 0
+IfTellsRoads (Some (Roads name form)) P = P name form
+IfTellsRoads other P = Unit {0}
+
+-- a fact of the map's name, if they ask for any of these
 abbrev pub IfReads : Option Asked → (List ℕ → Type 0) → Type 0
 IfReads (Some (Serve name form)) P = P name
 IfReads (Some (Convert name form to)) P = P name
+IfReads (Some (Roads name form)) P = P name
 IfReads other P = Unit {0}
 
 -- a fact of the size, if they ask for a run made of one
@@ -40,6 +46,10 @@ IfBothServed asked holds left P = IfMapServed asked holds (λ name form held. If
 -- alike where a map is to be converted
 abbrev pub IfMapConverted : Option Asked → (List ℕ → Option (List ℕ)) → (List ℕ → Form → Form → List ℕ → Type 0) → Type 0
 IfMapConverted asked holds P = IfConverts asked (λ name form to. IfSome (holds name) (P name form to))
+
+-- alike where its roads are to be told
+abbrev pub IfRoadsTold : Option Asked → (List ℕ → Option (List ℕ)) → (List ℕ → Form → List ℕ → Type 0) → Type 0
+IfRoadsTold asked holds P = IfTellsRoads asked (λ name form. IfSome (holds name) (P name form))
 
 -- map and script are right, and ask for no more labels than a run takes
 pub record IsServable (form : Form) (map_bytes script_bytes : List ℕ) : Type 0 where

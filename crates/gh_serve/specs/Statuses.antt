@@ -14,7 +14,7 @@ use Rattle.map_import.specs.Refusals.{Laid, roads}
 use Rattle.script_text.specs.declared.script.ScriptRead.{ScriptRead}
 use Rattle.script_text.specs.declared.fault.ScriptFault.TheVariants as script_fault
 use Rattle.script_text.specs.Grammar.{script_of}
-use Rattle.gh_words.specs.Words.{Asked, Serve, Convert, Generate}
+use Rattle.gh_words.specs.Words.{Asked, Serve, Convert, Generate, Roads}
 use Rattle.gh_serve.specs.Labels.{labels_asked}
 use Rattle.gh_serve.specs.declared.status.MapFault.{MapFault}
 use Rattle.gh_serve.specs.declared.status.MapFault.TheVariants as fault
@@ -179,12 +179,19 @@ abbrev pub IsOfAnswering : Status → Type 0
 IsOfAnswering (status.TooLarge quantity.Labels limit) = Unit {0}
 IsOfAnswering status = IsOfRun status
 
+-- those that writing roads gives, which reads no script
+abbrev pub IsOfRoads : Status → Type 0
+IsOfRoads status.Done = Unit {0}
+IsOfRoads status.WriteFault = Unit {0}
+IsOfRoads status = IsOfMap status
+
 -- the statuses of what the words ask for
 abbrev pub IsStatusOf : Option Asked → Status → Type 0
 IsStatusOf None said = (said ≡ status.Usage) ⊎ (said ≡ status.NoMemory)
 IsStatusOf (Some (Serve name form)) status = IsOfService status
 IsStatusOf (Some (Convert name form to)) status = IsOfConversion status
 IsStatusOf (Some (Generate size)) status = IsOfRun status
+IsStatusOf (Some (Roads name form)) status = IsOfRoads status
 
 -- the statuses after which nothing stands behind the sink's old bytes
 abbrev pub IsUnwritten : Status → Type 0

@@ -2,16 +2,18 @@
 ghost use Rattle.std.specs.Prelude.{◌≡◌, IfSome};
 ghost use Rattle.std.specs.Io.KnownBytes.{Keeps};
 ghost use Rattle.gh_base.specs.Causes.{Rose};
-ghost use Rattle.gh_serve.specs.Statuses.{IsOfService, IsOfConversion, IsUnwritten, MapSays, ScriptSays, LabelsSay};
+ghost use Rattle.gh_serve.specs.Statuses.{IsOfService, IsOfConversion, IsOfRoads, IsUnwritten, MapSays, ScriptSays, LabelsSay};
 ghost use Rattle.gh_serve.specs.Serving.{Serves, ServesFront, ServesPart};
+ghost use Rattle.gh_serve.specs.Roads.{WritesRoads, WritesRoadsFront, WritesRoadsPart};
 ghost use Rattle.gh_serve.specs.Converting.{Converts, ConvertsFront, ConvertsPart, ConversionSays};
 
 use crate::conversion::convert;
-use crate::maps::read_roads;
+use crate::maps::{read_roads, read_roads_and_ways};
 use crate::scripts::read_whole_script;
 use crate::serving::serve;
 use crate::status::{Status, Which};
-use gh_base::{Files, Form, Gate, Sink, Source};
+use gh_base::{Files, Form, Gate, GiveFault, Sink, Source};
+use road_lines::write_roads;
 use std::alloc::Global;
 use std::thread::Threads;
 
@@ -86,4 +88,38 @@ pub(crate) fn convert_map<F: Files, K: Sink>(
     let status = convert(alloc, &mut source, form, to, out);
     files.take_back(source);
     status
+}
+
+/// Writes a line for each edge of the roads of the map of a name.
+pub(crate) fn roads_map<F: Files, K: Sink>(
+    alloc: Global,
+    files: &mut F,
+    name: &str,
+    form: Form,
+    out: &mut K,
+) -> Status
+    ensures done { result ≡ Status.Done → IfSome (F.holds files.old name.now) (λ held.
+        WritesRoads form held (K.held out.old) (K.held out.new)) }
+    ensures map { IfSome (F.holds files.old name.now) (MapSays result form) }
+    ensures statuses { IsOfRoads result }
+    ensures open { result ≡ Status.OpenFault →
+        Rose (F.failed_brings files.old (F.mark_of files.old name.now)) (F.failed_brings files.new (F.mark_of files.old name.now)) }
+    ensures read { result ≡ Status.ReadFault Which.Map →
+        Rose (F.failed_takes files.old (F.mark_of files.old name.now)) (F.failed_takes files.new (F.mark_of files.old name.now)) }
+    ensures write { result ≡ Status.WriteFault → Rose (K.faults out.old) (K.faults out.new) }
+    ensures front { result ≡ Status.WriteFault → IfSome (F.holds files.old name.now) (λ held.
+        WritesRoadsFront form held (K.held out.old) (K.held out.new)) }
+    ensures part { result ≡ Status.NoMemory → IfSome (F.holds files.old name.now) (λ held.
+        WritesRoadsPart form held (K.held out.old) (K.held out.new)) }
+    ensures nothing { IsUnwritten result → Keeps (K.held out.old) (K.held out.new) }
+{
+    let read = match read_roads_and_ways(alloc, files, name, form) {
+        Ok(read) => read,
+        Err(status) => return status,
+    };
+    match write_roads(alloc, &read.roads, &read.ways, out) {
+        Ok(()) => Status::Done,
+        Err(GiveFault::NoMemory) => Status::NoMemory,
+        Err(GiveFault::WriteFault) => Status::WriteFault,
+    }
 }

@@ -6,13 +6,15 @@ ghost use Rattle.gh_base.specs.Causes.{Rose};
 ghost use Rattle.gh_base.specs.Places.{IsOnEarth};
 ghost use Rattle.gh_base.specs.declared.map.OsmNode.{OsmNode};
 ghost use Rattle.gh_base.specs.declared.map.OsmMap.{OsmMap};
+ghost use Rattle.map_import.specs.Roads.{ways_of_edges};
 ghost use Rattle.traffic_core.specs.Lands.{AreAsLong};
 ghost use Rattle.gh_serve.specs.Statuses.{IsShortMap, ReadsAs, MapSays, IsOfReading, IsOfMap, status_of_plain, status_of_pbf};
 ghost use Rattle.gh_serve.specs.Serving.{AreRoadsIn, AreRoadsRead, IsRefusedFor};
+ghost use Rattle.gh_serve.specs.Roads.{AreRoadsAndWays};
 
 use crate::status::{MapFault, Quantity, Status, Which};
-use gh_base::{Files, Form, OsmMap, Source};
-use map_import::{ImportFault, Roads, import};
+use gh_base::{Files, Form, IdList, OsmMap, Source};
+use map_import::{ImportFault, Roads, import, ways_of_edges};
 use pbf_reader::{PbfFault, read_pbf};
 use plain_map::{PlainFault, read_plain};
 use std::alloc::Global;
@@ -159,4 +161,54 @@ pub(crate) fn read_roads<F: Files>(
         Err(status) => return Err(status),
     };
     roads_of(alloc, &map)
+}
+
+/// Roads, and the id of each edge's way.
+#[derive(Drop)]
+pub(crate) struct RoadsAndWays {
+    pub(crate) roads: Roads,
+    pub(crate) ways: IdList,
+}
+
+/// The roads of a map, and the id of each edge's way.
+fn roads_and_ways_of(alloc: Global, map: &OsmMap) -> Result<RoadsAndWays, Status>
+    requires { All (λ (node : OsmNode). IsOnEarth node.place) map.now.nodes }
+    ensures roads { IfOk result (λ read. AreRoadsIn map.now read.roads) }
+    ensures ways { IfOk result (λ read. read.ways ≡ ways_of_edges map.now) }
+    ensures many { IfOk result (λ read. length read.ways ≡ length read.roads.graph.lists.edges) }
+    ensures refused { IfErr result (IsRefusedFor map.now) }
+{
+    let roads = match roads_of(alloc, map) {
+        Ok(roads) => roads,
+        Err(status) => return Err(status),
+    };
+    match ways_of_edges(alloc, map) {
+        Ok(ways) => Ok(RoadsAndWays { roads, ways }),
+        Err(_) => Err(Status::NoMemory),
+    }
+}
+
+/// Reads the map of a name, imports it, and finds the way of each edge.
+pub(crate) fn read_roads_and_ways<F: Files>(
+    alloc: Global,
+    files: &mut F,
+    name: &str,
+    form: Form,
+) -> Result<RoadsAndWays, Status>
+    ensures map { IfOk result (λ read. IfSome (F.holds files.old name.now) (λ held.
+        IsShortMap held × AreRoadsAndWays form held read.roads read.ways)) }
+    ensures err { IfErr result (λ status. IfSome (F.holds files.old name.now) (MapSays status form)) }
+    ensures early { IfErr result IsOfMap }
+    ensures open { IsErrOf result Status.OpenFault →
+        Rose (F.failed_brings files.old (F.mark_of files.old name.now)) (F.failed_brings files.new (F.mark_of files.old name.now)) }
+    ensures read { IsErrOf result (Status.ReadFault Which.Map) →
+        Rose (F.failed_takes files.old (F.mark_of files.old name.now)) (F.failed_takes files.new (F.mark_of files.old name.now)) }
+    ensures ids { IfOk result (λ read. length read.roads.ids ≡ length read.roads.graph.lists.places) }
+    ensures ways { IfOk result (λ read. length read.ways ≡ length read.roads.graph.lists.edges) }
+{
+    let map = match bring_map(alloc, files, name, form) {
+        Ok(map) => map,
+        Err(status) => return Err(status),
+    };
+    roads_and_ways_of(alloc, &map)
 }

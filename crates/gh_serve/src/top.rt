@@ -4,13 +4,14 @@ ghost use Rattle.std.specs.Io.KnownBytes.{Keeps};
 ghost use Rattle.gh_base.specs.Causes.{Rose};
 ghost use Rattle.generated_run.specs.Generating.{Generates, GeneratesFront};
 ghost use Rattle.gh_words.specs.Words.{asks};
-ghost use Rattle.gh_serve.specs.Runs.{IfReads, IfGenerates, IfMapServed, IfScriptServed, IfBothServed, IfMapConverted, IsServable};
-ghost use Rattle.gh_serve.specs.Statuses.{MapSays, ScriptSays, LabelsSay, IsStatusOf, IsSilent, IsCalm, IsDoneOrNoMemory};
+ghost use Rattle.gh_serve.specs.Runs.{IfReads, IfGenerates, IfMapServed, IfScriptServed, IfBothServed, IfMapConverted, IfRoadsTold, IsServable};
+ghost use Rattle.gh_serve.specs.Roads.{WritesRoads, WritesRoadsFront, WritesRoadsPart};
+ghost use Rattle.gh_serve.specs.Statuses.{IsMap, MapSays, ScriptSays, LabelsSay, IsStatusOf, IsSilent, IsCalm, IsDoneOrNoMemory};
 ghost use Rattle.gh_serve.specs.declared.status.Which.TheVariants as which;
 ghost use Rattle.gh_serve.specs.Serving.{Serves, ServesFront, ServesPart};
 ghost use Rattle.gh_serve.specs.Converting.{Converts, ConvertsFront, ConvertsPart, ConversionSays, IsConvertible};
 
-use crate::commands::{convert_map, serve_map};
+use crate::commands::{convert_map, roads_map, serve_map};
 use crate::generating::generate;
 use crate::status::Status;
 use gh_base::{Files, Gate, Sink, Source};
@@ -20,7 +21,8 @@ use std::thread::Threads;
 
 /// Does what the words after the program's name ask for: reads the map of that name, and either
 /// answers the script over its roads and writes the replies and the journal, or writes the map in
-/// another form; or answers a script made of a size over roads made of it, and writes the summary.
+/// another form, or a line for each edge of its roads; or answers a script made of a size over
+/// roads made of it, and writes the summary.
 pub fn run<R: Threads + Sync, F: Files, I: Source, K: Sink, G: Gate>(
     rt: &R,
     alloc: Global,
@@ -39,6 +41,11 @@ pub fn run<R: Threads + Sync, F: Files, I: Source, K: Sink, G: Gate>(
     ensures converted { result ≡ Status.Done →
         IfMapConverted (asks words.now) (F.holds files.old)
         (λ _ form to held. Converts form to held (K.held out.old) (K.held out.new)) }
+
+    // Or a line for each edge of the map's roads.
+    ensures roads { result ≡ Status.Done →
+        IfRoadsTold (asks words.now) (F.holds files.old)
+        (λ _ form held. WritesRoads form held (K.held out.old) (K.held out.new)) }
 
     // Or the summary of a run made of a size.
     ensures generated { result ≡ Status.Done →
@@ -67,6 +74,7 @@ pub fn run<R: Threads + Sync, F: Files, I: Source, K: Sink, G: Gate>(
         (λ _. LabelsSay result) }
     ensures conversion { IfMapConverted (asks words.now) (F.holds files.old)
         (λ _. ConversionSays result) }
+    ensures roads_map { IfRoadsTold (asks words.now) (F.holds files.old) (λ _. MapSays result) }
 
     // Where all bytes are right and no call of the outside failed, nothing but want of memory
     // keeps the run from its end.
@@ -80,6 +88,12 @@ pub fn run<R: Threads + Sync, F: Files, I: Source, K: Sink, G: Gate>(
     ensures converted_complete { IfMapConverted (asks words.now) (F.holds files.old)
         (λ name form to held. let mark = F.mark_of files.old name in
         IsConvertible form to held →
+        IsCalm (F.failed_brings files.old mark) (F.failed_brings files.new mark) →
+        IsCalm (F.failed_takes files.old mark) (F.failed_takes files.new mark) →
+        IsCalm (K.faults out.old) (K.faults out.new) → IsDoneOrNoMemory result) }
+    ensures roads_complete { IfRoadsTold (asks words.now) (F.holds files.old)
+        (λ name form held. let mark = F.mark_of files.old name in
+        IsMap form held →
         IsCalm (F.failed_brings files.old mark) (F.failed_brings files.new mark) →
         IsCalm (F.failed_takes files.old mark) (F.failed_takes files.new mark) →
         IsCalm (K.faults out.old) (K.faults out.new) → IsDoneOrNoMemory result) }
@@ -100,6 +114,12 @@ pub fn run<R: Threads + Sync, F: Files, I: Source, K: Sink, G: Gate>(
     ensures converted_part { result ≡ Status.NoMemory →
         IfMapConverted (asks words.now) (F.holds files.old)
         (λ _ form to held. ConvertsPart form to held (K.held out.old) (K.held out.new)) }
+    ensures roads_front { result ≡ Status.WriteFault →
+        IfRoadsTold (asks words.now) (F.holds files.old)
+        (λ _ form held. WritesRoadsFront form held (K.held out.old) (K.held out.new)) }
+    ensures roads_part { result ≡ Status.NoMemory →
+        IfRoadsTold (asks words.now) (F.holds files.old)
+        (λ _ form held. WritesRoadsPart form held (K.held out.old) (K.held out.new)) }
     ensures generated_front { result ≡ Status.WriteFault →
         IfGenerates (asks words.now)
         (λ size. GeneratesFront size (K.held out.old) (K.held out.new)) }
@@ -113,6 +133,7 @@ pub fn run<R: Threads + Sync, F: Files, I: Source, K: Sink, G: Gate>(
             rt, alloc, files, map, form, script, out, gate,
         ),
         Ok(Request::Convert { map, form, to }) => convert_map(alloc, files, map, form, to, out),
+        Ok(Request::Roads { map, form }) => roads_map(alloc, files, map, form, out),
         Ok(Request::Generate { size }) => generate(rt, alloc, size, out, gate),
         Err(WordsFault::Usage) => Status::Usage,
         Err(WordsFault::NoMemory) => Status::NoMemory,

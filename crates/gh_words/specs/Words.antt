@@ -10,17 +10,20 @@ use Rattle.gh_base.specs.declared.kinds.Form.TheVariants.{Plain, Pbf}
 use Rattle.gh_words.specs.declared.request.Request.{Request}
 use Rattle.gh_words.specs.declared.request.Request.TheVariants as request
 
--- to serve queries from the map of a name, in a form; to write that map in a form; or to answer a script made of a size
+-- to serve queries from the map of a name, in a form; to write that map in a form; to answer a script made of a size; or
+-- to write the roads of the map of a name
 pub data Asked : Type 0 where
   Serve : (map : List ℕ) → (form : Form) → Asked
   Convert : (map : List ℕ) → (form : Form) → (to : Form) → Asked
   Generate : (size : ℕ) → Asked
+  Roads : (map : List ℕ) → (form : Form) → Asked
 
 -- what a request says
 abbrev pub asked_by : Request → Asked
 asked_by (request.Serve map form) = Serve map.now form
 asked_by (request.Convert map form to) = Convert map.now form to
 asked_by (request.Generate size) = Generate size
+asked_by (request.Roads map form) = Roads map.now form
 
 -- an option that stands exactly once, and has one value
 abbrev pub option_of : Word → Rule
@@ -47,6 +50,10 @@ convert_app = with_rule (map_app (codes "convert")) (option_of (codes "to"))
 -- the command `generate`, to clap
 abbrev pub generate_app : App
 generate_app = with_rule (bare_app (codes "generate")) (option_of (codes "size"))
+
+-- the command `roads`, to clap
+abbrev pub roads_app : App
+roads_app = map_app (codes "roads")
 
 -- a word that is nothing but one or two minus signs
 abbrev pub is_dashes : Word → Bool
@@ -126,6 +133,13 @@ generate_in rows = do
   size ← size_in rows
   Some (Generate size)
 
+-- what the options of `roads` say
+abbrev pub roads_in : List Row → Option Asked
+roads_in rows = do
+  map ← map_in rows
+  form ← form_in (codes "form") rows
+  Some (Roads map form)
+
 -- what the words of `serve` ask for, itself the first of them
 unfoldable pub serve_asked : List Word → Option Asked
 serve_asked words = found_in serve_app words >>= serve_in
@@ -138,6 +152,10 @@ convert_asked words = found_in convert_app words >>= convert_in
 unfoldable pub generate_asked : List Word → Option Asked
 generate_asked words = found_in generate_app words >>= generate_in
 
+-- what the words of `roads` ask for, alike
+unfoldable pub roads_asked : List Word → Option Asked
+roads_asked words = found_in roads_app words >>= roads_in
+
 -- what the words ask for, by the first of them; none where they are refused
 unfoldable pub asked : List Word → Option Asked
 asked [] = None
@@ -145,6 +163,7 @@ asked (first ∷ words) =
     if bytes_eq first (codes "serve") then serve_asked (first ∷ words)
     else if bytes_eq first (codes "convert") then convert_asked (first ∷ words)
     else if bytes_eq first (codes "generate") then generate_asked (first ∷ words)
+    else if bytes_eq first (codes "roads") then roads_asked (first ∷ words)
     else None
 
 -- what the words of a command line ask for

@@ -9,6 +9,7 @@ mod convert;
 mod generate;
 mod options;
 mod request;
+mod roads;
 mod serve;
 mod words;
 

@@ -12,6 +12,8 @@ pub enum Request<'a> {
     Convert { map: &'a str, form: Form, to: Form },
     /// To answer a script over a grid of `size` rows and columns, both made of this number, and write a summary.
     Generate { size: u32 },
+    /// To write the roads of the map of this name, which is in this form, each as a line of GeoJSON.
+    Roads { map: &'a str, form: Form },
 }
 
 /// Why words are no request.

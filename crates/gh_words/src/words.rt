@@ -5,6 +5,7 @@ ghost use Rattle.gh_words.specs.Words.{IsOfSize, asks, asked_by};
 use crate::convert::read_convert;
 use crate::generate::read_generate;
 use crate::request::{Request, WordsFault};
+use crate::roads::read_roads;
 use crate::serve::read_serve;
 use std::alloc::Global;
 
@@ -21,6 +22,7 @@ pub fn read_words<'a>(alloc: Global, words: &'a [String]) -> Result<Request<'a>,
         [first, ..] if first.as_str() == "serve" => read_serve(alloc, words),
         [first, ..] if first.as_str() == "convert" => read_convert(alloc, words),
         [first, ..] if first.as_str() == "generate" => read_generate(alloc, words),
+        [first, ..] if first.as_str() == "roads" => read_roads(alloc, words),
         _ => Err(WordsFault::Usage),
     }
 }

@@ -69,6 +69,21 @@ fn sizes_are_taken(rt: HostRuntime) -> Result<(), Fail> {
 }
 
 #[test]
+fn roads_are_asked_for(rt: HostRuntime) -> Result<(), Fail> {
+    for (line, map, form) in [
+        ("roads --map m.txt --form plain", "m.txt", Plain),
+        ("roads --form=pbf --map=-x", "-x", Pbf),
+    ] {
+        let words = owned(rt.alloc(), line)?;
+        match read_words(rt.alloc(), &words) {
+            Ok(read) => assert_eq!(rt; read, Request::Roads { map, form }, "{line}"),
+            Err(_) => assert!(rt; false, "{line}"),
+        }
+    }
+    Ok(())
+}
+
+#[test]
 fn other_lines_are_usage(rt: HostRuntime) -> Result<(), Fail> {
     for line in [
         "",
@@ -126,6 +141,14 @@ fn other_lines_are_usage(rt: HostRuntime) -> Result<(), Fail> {
         "generate --size 5 --map m",
         "generate --map m --form plain",
         "serve --size 5",
+        "roads",
+        "roads --map m",
+        "roads --form plain",
+        "roads --map m --form osm",
+        "roads --map m --form plain --to pbf",
+        "roads --map m --map m --form plain",
+        "roads --map= --form plain",
+        "roads --map m --form plain more",
     ] {
         let words = owned(rt.alloc(), line)?;
         match read_words(rt.alloc(), &words) {

@@ -133,6 +133,27 @@ fn a_run_made_of_a_size_is_summed_up(rt: HostRuntime) -> Result<(), AllocError> 
 }
 
 #[test]
+fn each_edge_of_a_map_has_a_line(rt: HostRuntime) -> Result<(), AllocError> {
+    let map = "n1 y0 x0\nn2 y0 x0.01\nw10 Thighway=secondary Nn1,n2\n";
+    // Nothing reads the script.
+    let case = Case {
+        words: &["roads", "--map", "m", "--form", "plain"],
+        script_fails: &FIRST,
+        ..plain_case(map.as_bytes(), b"")
+    };
+    let (text, held) = outcome(&rt, rt.alloc(), &case)?;
+    assert_eq!(rt; text.as_str(), "done");
+    let wanted =
+        "{\"type\":\"Feature\",\"properties\":{\"edge\":0,\"way\":10,\"base\":1,\"adjacent\":2,\"mm\":1111949,\"forward\":60000,\"reverse\":60000},\"geometry\":{\"type\":\"LineString\",\"coordinates\":[[0,0],[0.01,0]]}}\n";
+    assert_eq!(rt; held.as_slice(), wanted.as_bytes());
+    let sink_fails = SECOND.as_slice();
+    let (text, held) = outcome(&rt, rt.alloc(), &Case { sink_fails, ..case })?;
+    assert_eq!(rt; text.as_str(), "gh: cannot write");
+    assert_eq!(rt; held.as_slice(), &wanted.as_bytes()[..5]);
+    Ok(())
+}
+
+#[test]
 fn each_refusal_has_its_text_and_writes_nothing(rt: HostRuntime) -> Result<(), AllocError> {
     let map = MAP.as_bytes();
     let cases = [
@@ -149,6 +170,13 @@ fn each_refusal_has_its_text_and_writes_nothing(rt: HostRuntime) -> Result<(), A
                 ..plain_case(map, b"")
             },
             "gh: usage",
+        ),
+        (
+            Case {
+                words: &["roads", "--map", "m", "--form", "plain"],
+                ..plain_case(b"n1 y0 x0\nw10 Thighway=service Nn1,n9\n", b"")
+            },
+            "gh: map: MissingNode way 10 node 9",
         ),
         (
             Case {

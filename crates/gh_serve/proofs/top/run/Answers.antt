@@ -1,7 +1,7 @@
 use Rattle.std.proofs.Common.{subst}
 use Rattle.gh_serve.proofs.top.run.Goals as goal
 use Rattle.gh_words.specs.Words.{IsOfSize}
-use Rattle.gh_serve.proofs.Complete.{serves_complete, converts_complete}
+use Rattle.gh_serve.proofs.Complete.{serves_complete, converts_complete, tells_complete}
 use Rattle.gh_serve.proofs.Unwritten.{never_unwritten}
 
 pub returns-in-Ok-Serve-clause-complete : goal.returns-in-Ok-Serve-clause-complete
@@ -11,6 +11,10 @@ returns-in-Ok-Serve-clause-complete g c =
 pub returns-in-Ok-Convert-clause-converted_complete : goal.returns-in-Ok-Convert-clause-converted_complete
 returns-in-Ok-Convert-clause-converted_complete g c =
     rw (c.in-Ok-Convert.ensures.request, c.in-Ok-Convert.field-0-is) (converts_complete c.convert_map.result c.in-Ok-Convert.form c.in-Ok-Convert.to _ _ _ _ _ _ _ c.convert_map.ensures.statuses c.convert_map.ensures.map c.convert_map.ensures.open c.convert_map.ensures.read c.convert_map.ensures.write)
+
+pub returns-in-Ok-Roads-clause-roads_complete : goal.returns-in-Ok-Roads-clause-roads_complete
+returns-in-Ok-Roads-clause-roads_complete g c =
+    rw (c.in-Ok-Roads.ensures.request, c.in-Ok-Roads.field-0-is) (tells_complete c.roads_map.result c.in-Ok-Roads.form _ _ _ _ _ _ _ c.roads_map.ensures.statuses c.roads_map.ensures.map c.roads_map.ensures.open c.roads_map.ensures.read c.roads_map.ensures.write)
 
 pub generate-requires-clause-two : goal.generate-requires-clause-two
 generate-requires-clause-two g c = λ _ _. (subst IsOfSize c.in-Ok-Generate.field-0-is c.in-Ok-Generate.ensures.size).least
