@@ -18,7 +18,8 @@ use Rattle.script_text.specs.declared.script.Command.{Command}
 use Rattle.script_text.specs.declared.script.Command.TheVariants as command
 use Rattle.script_service.specs.Answering.{Answered, accepted, is_accepted, own_of}
 use Rattle.script_service.specs.Fitting.{IsGiven, SeesOwn}
-use Rattle.script_service.specs.Replying.{IsEntry, IsRightAfter, SaysLower, along}
+use Rattle.script_service.specs.Replying.{IsEntry, IsRightAfter, SaysLower}
+use Rattle.summary_laws.proofs.Directions.{by_number}
 use Rattle.script_service.proofs.ListsAndPairs.{cut_at}
 use Rattle.script_service.proofs.RightReplies.{IsChange, has_entry}
 use Rattle.summary_laws.proofs.LimitsOfTen.{IsMild, SomeMarks}
@@ -88,11 +89,11 @@ contains_at [] z a = (zero, omega arith, refl)
 contains_at (y ∷ x) z a = let rest = contains_at x z a in (suc rest.0, let h = rest.1 in omega arith, rest.2)
 
 -- a directed edge by its place
-index_one : (edge : ℕ) (by : DirEdge) (reverse : Bool) → by.reverse ≡ reverse → 2 * edge ≡ 2 * by.edge.0 + cond reverse 1 0 → along edge false ≡ by
+index_one : (edge : ℕ) (by : DirEdge) (reverse : Bool) → by.reverse ≡ reverse → 2 * edge ≡ 2 * by.edge.0 + cond reverse 1 0 → by_number edge false ≡ by
 index_one edge by true is same = absurd (omega arith)
 index_one edge by false is same =
     let e : edge ≡ by.edge.0 = omega arith in
-    ap (λ (n : ℕ). along n false) e ∙ ap (λ (r : Bool). along by.edge.0 r) (sym is)
+    ap (λ (n : ℕ). by_number n false) e ∙ ap (λ (r : Bool). by_number by.edge.0 r) (sym is)
 
 ten_or_none : (b : Bool) (speed : ℕ) → speed ≡ 10000 → (cond {A = Option ℕ} b (Some speed) None ≡ None) ⊎ (cond {A = Option ℕ} b (Some speed) None ≡ Some 10000)
 ten_or_none true speed is = inr (ap (λ n. Some n) is)
@@ -102,7 +103,7 @@ ten_or_none false speed is = inl refl
 mild_change : (land : Land) (journal : List Entry) (own : List Answered) (edges actor : ℕ) (by : DirEdge) (c : Command) (change : What) → IsLineOf edges actor c → IsChange land journal own c change →
     (speed_by by change ≡ None) ⊎ (speed_by by change ≡ Some 10000)
 mild_change land journal own edges actor by (command.Lower edge reverse speed) change is of_command =
-    subst (λ (w : What). (speed_by by w ≡ None) ⊎ (speed_by by w ≡ Some 10000)) (sym of_command) (ten_or_none (index_of (along edge reverse) == index_of by) speed is.3)
+    subst (λ (w : What). (speed_by by w ≡ None) ⊎ (speed_by by w ≡ Some 10000)) (sym of_command) (ten_or_none (index_of (by_number edge reverse) == index_of by) speed is.3)
 mild_change land journal own edges actor by (command.Publish profile) change is of_command =
     subst (λ (w : What). (speed_by by w ≡ None) ⊎ (speed_by by w ≡ Some 10000)) (sym of_command.2) (inl refl)
 mild_change land journal own edges actor by (command.Restore edge reverse speed) change is of_command = absurd is
@@ -115,7 +116,7 @@ pub record IsLowering (actor : ℕ) (c : Command) (by : DirEdge) : Type 0 where
   pub edge : ℕ
   pub actor_is : actor ≡ 0
   pub command_is : c ≡ command.Lower edge false 10000
-  pub by_is : along edge false ≡ by
+  pub by_is : by_number edge false ≡ by
 
 pub lower_is : (edge : ℕ) (reverse : Bool) (speed : ℕ) → reverse ≡ false → speed ≡ 10000 → command.Lower edge reverse speed ≡ command.Lower edge false 10000
 lower_is edge reverse speed r s = ap (λ (b : Bool). command.Lower edge b speed) r ∙ ap (λ (n : ℕ). command.Lower edge false n) s
@@ -127,9 +128,9 @@ marks_if false speed is = absurd cc
 lowering_of : (land : Land) (journal : List Entry) (own : List Answered) (edges actor : ℕ) (by : DirEdge) (c : Command) (change : What) → IsLineOf edges actor c → IsChange land journal own c change →
     speed_by by change ≡ Some 10000 → IsLowering actor c by
 lowering_of land journal own edges actor by (command.Lower edge reverse speed) change is of_command marks =
-    let here : speed_by by (what.Lower (along edge reverse) speed) ≡ Some 10000 = subst (λ (w : What). speed_by by w ≡ Some 10000) of_command marks in
-    let same = eqb-true (index_of (along edge reverse)) (index_of by) (marks_if (index_of (along edge reverse) == index_of by) speed here) in
-    let forward : index_of (along edge false) ≡ index_of by = subst (λ (r : Bool). index_of (along edge r) ≡ index_of by) is.2 same in
+    let here : speed_by by (what.Lower (by_number edge reverse) speed) ≡ Some 10000 = subst (λ (w : What). speed_by by w ≡ Some 10000) of_command marks in
+    let same = eqb-true (index_of (by_number edge reverse)) (index_of by) (marks_if (index_of (by_number edge reverse) == index_of by) speed here) in
+    let forward : index_of (by_number edge false) ≡ index_of by = subst (λ (r : Bool). index_of (by_number edge r) ≡ index_of by) is.2 same in
     record { edge = edge; actor_is = is.0; command_is = lower_is edge reverse speed is.2 is.3; by_is = index_one edge by by.reverse refl (omega (arith, forward)) }
 lowering_of land journal own edges actor by (command.Publish profile) change is of_command marks =
     absurd (let none : None ≡ Some 10000 = subst (λ (w : What). speed_by by w ≡ Some 10000) of_command.2 marks in cc)

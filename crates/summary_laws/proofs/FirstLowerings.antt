@@ -16,7 +16,8 @@ use Rattle.script_text.specs.declared.script.Command.TheVariants as command
 use Rattle.script_text.specs.declared.script.Line.{Line}
 use Rattle.script_service.specs.Answering.{Answered, is_accepted, lines, own_of}
 use Rattle.script_service.specs.Fitting.{IsPast, SeesOwn}
-use Rattle.script_service.specs.Replying.{IsRightTo, along}
+use Rattle.script_service.specs.Replying.{IsRightTo}
+use Rattle.summary_laws.proofs.Directions.{by_number}
 use Rattle.script_service.proofs.ListsAndPairs.{cut_at, pairs_before}
 use Rattle.summary_laws.proofs.LimitsOfTen.{IsOpening, IsTen, NoneMarks, limit_cases, not_both}
 use Rattle.summary_laws.proofs.AnsweredScripts.{HasMark, IsLineOf, IsPlayed, IsTaken, answer_of, changes, contains_at, contains_left, line_of, marked, mild, never_full, pairs_behind, place_of}
@@ -76,12 +77,12 @@ module _ (land : Land) (journal : List Entry) (all : List Answered) (played : Is
       (line.0, line.1)
 
   pub answer_at : (x z : List Answered) (a : Answered) → all ≡ x ++ a ∷ z → (edge : ℕ) → a.line.command ≡ command.Lower edge false 10000 →
-      IsTaken land journal a (along edge false) ⊎ SeesLow a (along edge false)
+      IsTaken land journal a (by_number edge false) ⊎ SeesLow a (by_number edge false)
   answer_at x z a is edge lowers =
       let has : Contains all a = subst (λ (l : List Answered). Contains l a) (sym is) (contains_at x z a) in
       let right = subst (λ (c : Command). IsRightTo land 9 journal (own_of a.line.actor x) a c) lowers (played.right x z a is) in
       let line = line_is a edge has lowers in
-      elim (answer_of land journal a (along edge false) a.reply refl line.1 right) [
+      elim (answer_of land journal a (by_number edge false) a.reply refl line.1 right) [
         | inl taken ↦ inl taken
         | inr refusal ↦ elim refusal.why [
           | inl low ↦ inr (record { refused = refusal.refused; low = low })
@@ -105,7 +106,7 @@ module _ (land : Land) (journal : List Entry) (all : List Answered) (played : Is
   opening_above count by mark =
       let cut = cut_at all mark.a mark.has in
       elim (answer_at cut.front cut.back mark.a cut.is mark.lowers.edge mark.lowers.command_is) [
-        | inl taken ↦ subst (λ (b : DirEdge). 10000 < opening_of land.graph b) mark.lowers.by_is (first_of mark.a (along mark.lowers.edge false) taken).above
+        | inl taken ↦ subst (λ (b : DirEdge). 10000 < opening_of land.graph b) mark.lowers.by_is (first_of mark.a (by_number mark.lowers.edge false) taken).above
         | inr low ↦ absurd (let no : true ≡ false = sym mark.took ∙ low.refused in cc)
       ]
 
@@ -136,10 +137,10 @@ module _ (land : Land) (journal : List Entry) (all : List Answered) (played : Is
       not_both (speed_on by d) 10000 no yes
 
   -- no lowering of an edge that opens above 10 km/h leaves its limit there
-  pub leaves_none : (a : Answered) (edge count : ℕ) → Contains all a → a.line.command ≡ command.Lower edge false 10000 → 10000 < opening_of land.graph (along edge false) → a.at ≤ count →
-      NoneMarks journal count (along edge false) → ⊥
+  pub leaves_none : (a : Answered) (edge count : ℕ) → Contains all a → a.line.command ≡ command.Lower edge false 10000 → 10000 < opening_of land.graph (by_number edge false) → a.at ≤ count →
+      NoneMarks journal count (by_number edge false) → ⊥
   leaves_none a edge count has lowers above within none =
-      let by : DirEdge = along edge false in
+      let by : DirEdge = by_number edge false in
       let cut = cut_at all a has in
       elim (answer_at cut.front cut.back a cut.is edge lowers) [
         | inl taken ↦ entry_marks a by count taken (let from = taken.entry.0 in omega arith) none
@@ -159,10 +160,10 @@ module _ (land : Land) (journal : List Entry) (all : List Answered) (played : Is
   past_behind : (x z : List Answered) (a b : Answered) → all ≡ x ++ a ∷ z → Contains z b → a.line.actor ≡ b.line.actor → IsPast a.at b
   past_behind x z a b is has same = All-contains (SeesOwn a) z b (pairs_behind SeesOwn x z a (rw is at played.pairs)) has same
 
-  not_named : (x z : List Answered) (a : Answered) → all ≡ x ++ a ∷ z → (edge : ℕ) → a.line.command ≡ command.Lower edge false 10000 → IsTaken land journal a (along edge false) →
+  not_named : (x z : List Answered) (a : Answered) → all ≡ x ++ a ∷ z → (edge : ℕ) → a.line.command ≡ command.Lower edge false 10000 → IsTaken land journal a (by_number edge false) →
       is_named edge (lines x) ≡ true → ⊥
   not_named x z a is edge lowers taken named =
-      let by : DirEdge = along edge false in
+      let by : DirEdge = by_number edge false in
       let first = first_of a by taken in
       let found = named_has edge x named in
       let b = found.0 in
@@ -174,10 +175,10 @@ module _ (land : Land) (journal : List Entry) (all : List Answered) (played : Is
       let less = past.own taken.took in
       leaves_none b edge (a.at - 1) has own.1 first.above (omega arith) first.none
 
-  seen_named : (x z : List Answered) (a : Answered) → all ≡ x ++ a ∷ z → (edge : ℕ) → a.line.command ≡ command.Lower edge false 10000 → SeesLow a (along edge false) →
-      10000 < opening_of land.graph (along edge false) → is_named edge (lines x) ≡ true
+  seen_named : (x z : List Answered) (a : Answered) → all ≡ x ++ a ∷ z → (edge : ℕ) → a.line.command ≡ command.Lower edge false 10000 → SeesLow a (by_number edge false) →
+      10000 < opening_of land.graph (by_number edge false) → is_named edge (lines x) ≡ true
   seen_named x z a is edge lowers low above =
-      let by : DirEdge = along edge false in
+      let by : DirEdge = by_number edge false in
       let has_a : Contains all a = subst (λ (l : List Answered). Contains l a) (sym is) (contains_at x z a) in
       let mine = line_is a edge has_a lowers in
       elim (cases_at by a.at) [
@@ -199,14 +200,14 @@ module _ (land : Land) (journal : List Entry) (all : List Answered) (played : Is
 
   -- which lowering is accepted follows from the lines before it
   pub lowering_taken : (x z : List Answered) (a : Answered) → all ≡ x ++ a ∷ z → (edge : ℕ) → a.line.command ≡ command.Lower edge false 10000 →
-      is_accepted a.reply ≡ (nat_lt 10000 (opening_of land.graph (along edge false)) && not (is_named edge (lines x)))
+      is_accepted a.reply ≡ (nat_lt 10000 (opening_of land.graph (by_number edge false)) && not (is_named edge (lines x)))
   lowering_taken x z a is edge lowers = elim (answer_at x z a is edge lowers) [
     | inl taken ↦ elim (cases_Bool (is_named edge (lines x))) [
       | inl named ↦ absurd (not_named x z a is edge lowers taken named)
-      | inr fresh ↦ rw (taken.took, lt-ltb 10000 (opening_of land.graph (along edge false)) (first_of a (along edge false) taken).above, fresh) refl
+      | inr fresh ↦ rw (taken.took, lt-ltb 10000 (opening_of land.graph (by_number edge false)) (first_of a (by_number edge false) taken).above, fresh) refl
     ]
-    | inr low ↦ elim (cases_lt 10000 (opening_of land.graph (along edge false))) [
-      | inl above ↦ rw (low.refused, lt-ltb 10000 (opening_of land.graph (along edge false)) above, seen_named x z a is edge lowers low above) refl
-      | inr under ↦ rw (low.refused, le-ltb 10000 (opening_of land.graph (along edge false)) under) refl
+    | inr low ↦ elim (cases_lt 10000 (opening_of land.graph (by_number edge false))) [
+      | inl above ↦ rw (low.refused, lt-ltb 10000 (opening_of land.graph (by_number edge false)) above, seen_named x z a is edge lowers low above) refl
+      | inr under ↦ rw (low.refused, le-ltb 10000 (opening_of land.graph (by_number edge false)) under) refl
     ]
   ]

@@ -7,7 +7,8 @@ use Rattle.std.proofs.lemmas.List.{get_or-map, length-map}
 use Rattle.std.proofs.lemmas.Option.{slice_get-get_or}
 use Rattle.base_graph.specs.Graphs.{Edge, edge_at, no_edge}
 use Rattle.map_import.specs.Building.{laid_as}
-use Rattle.map_import.specs.Roads.{Piece, UsedWay, cut, edge_of, ends_of, first_of, is_numbered, is_tower, last_of, line_length, number, piece_of, pieces_in, pieces_of, pieces_of_way, place_in, points_along, with_tower}
+use Rattle.geo_math.specs.Lengths.{line_length}
+use Rattle.map_import.specs.Roads.{Piece, UsedWay, cut, edge_of, ends_of, first_of, is_numbered, is_tower, last_of, number, piece_of, pieces_in, pieces_of, pieces_of_way, place_in, points_along, with_tower}
 use Rattle.map_import.proofs.Numbers.{at_number, number_below}
 use Rattle.map_import.proofs.Sayings as says
 use Rattle.weighting.proofs.Turned.{contains_map}

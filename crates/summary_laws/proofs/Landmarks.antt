@@ -12,7 +12,8 @@ use Rattle.script_text.specs.declared.reply.Reply.TheVariants as reply
 use Rattle.script_text.specs.declared.script.Command.{Command}
 use Rattle.script_text.specs.declared.script.Command.TheVariants as command
 use Rattle.script_service.specs.Answering.{Answered, own_of}
-use Rattle.script_service.specs.Replying.{IsRightTo, SaysLower, SaysPublish, along, reply_of}
+use Rattle.script_service.specs.Replying.{IsRightTo, SaysLower, SaysPublish, reply_of}
+use Rattle.summary_laws.proofs.Directions.{by_number}
 use Rattle.generated_run.specs.Generating.{AreRoadsOfSize}
 use Rattle.generated_run.specs.Summaries.{landmarks_of}
 use Rattle.summary_laws.proofs.FullChoice.{landmarks_are_four}
@@ -50,7 +51,7 @@ module _ (size : ℕ) (two : 2 ≤ size) (few : size ≤ 300) (land : Land) (are
     (some_open : (count : ℕ) → IsNoPrepAt land (take count journal) 0 → ⊥) where
   tells_by : (x z : List Answered) (a : Answered) → all ≡ x ++ a ∷ z → (c : Command) → a.line.command ≡ c → IsLineOf (length land.graph.edges) a.line.actor c → landmarks_of a.reply ≡ landmarks_in c
   tells_by x z a is (command.Lower edge reverse speed) commands line =
-      lower_none land journal a (along edge reverse) speed a.reply (subst (λ (c : Command). IsRightTo land 9 journal (own_of a.line.actor x) a c) commands (played.right x z a is))
+      lower_none land journal a (by_number edge reverse) speed a.reply (subst (λ (c : Command). IsRightTo land 9 journal (own_of a.line.actor x) a c) commands (played.right x z a is))
   tells_by x z a is (command.Prepare profile count) commands line =
       let prepares : a.line.command ≡ command.Prepare 0 4 = commands ∙ ap (λ (n : ℕ). command.Prepare n count) line.1 ∙ ap (λ (n : ℕ). command.Prepare 0 n) line.2 in
       let made = prepared land journal all played some_open x z a is prepares in

@@ -1,3 +1,4 @@
+pub mod Directions
 pub mod LeastLeaving
 pub mod SameRoads
 pub mod OpenRoads

@@ -6,9 +6,9 @@ use Rattle.std.proofs.Math.Nat.{lt-div-mul-add}
 use Rattle.std.proofs.lemmas.Bool.{cases_lt}
 use Rattle.std.proofs.lemmas.Nat.{div-mul-add, mod-mul-add, mul-le}
 use Rattle.gh_base.specs.declared.map.Point.{Point}
-use Rattle.geo_math.specs.Lengths.{diagonal, middle, root, scaled, scaled_size, segment_length}
+use Rattle.geo_math.specs.Lengths.{diagonal, line_length, middle, root, scaled, scaled_size, segment_length}
 use Rattle.geo_math.proofs.Squares.{root_is}
-use Rattle.map_import.specs.Roads.{line_length, origin, place_at, place_in, points_along}
+use Rattle.map_import.specs.Roads.{origin, place_at, place_in, points_along}
 use Rattle.generated_run.specs.Maps.{id_at, map_of}
 use Rattle.generated_run.proofs.GridNodes.{node_there}
 

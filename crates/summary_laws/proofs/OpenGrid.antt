@@ -23,7 +23,8 @@ use Rattle.weighting.specs.Weights.{values_at}
 use Rattle.weighting.proofs.Turned.{contains_map}
 use Rattle.traffic_core.specs.declared.entry.Entry.{Entry}
 use Rattle.traffic_core.specs.History.{limit_after}
-use Rattle.traffic_core.specs.Lands.{Land, profile_at, rule_alone}
+use Rattle.weighting.specs.Profiles.{profile_at}
+use Rattle.traffic_core.specs.Lands.{Land, rule_alone}
 use Rattle.traffic_core.specs.Truth.{IsNoPrepAt}
 use Rattle.generated_run.specs.Draws.{draw}
 use Rattle.generated_run.specs.Generating.{AreRoadsOfSize}

@@ -27,7 +27,8 @@ use Rattle.script_text.specs.declared.script.Line.{Line}
 use Rattle.route_sessions.specs.Sessions.{InForce, first_rule}
 use Rattle.script_service.specs.Answering.{Answered, is_accepted, lines, own_of, rule_after, rule_behind, rule_from}
 use Rattle.script_service.specs.Collecting.{replies}
-use Rattle.script_service.specs.Replying.{IsRightQuery, IsRightTo, SaysLower, SaysPrepare, SaysPublish, along, asks_under}
+use Rattle.script_service.specs.Replying.{IsRightQuery, IsRightTo, SaysLower, SaysPrepare, SaysPublish, asks_under}
+use Rattle.summary_laws.proofs.Directions.{by_number}
 use Rattle.script_service.proofs.RightReplies.{route_refused}
 use Rattle.generated_run.specs.Scripts.{lowering_at, preparing, publishing, route_at}
 use Rattle.generated_run.specs.Summaries.{is_route, weight_of}
@@ -304,9 +305,9 @@ module _ (size : ℕ) (land : Land) (around : List (List DirEdge)) (is_graph : I
       let low = lower_is edge reverse speed line.2 line.3 in
       let first = subst (λ (c : Command). IsRightTo land 9 h (own_of a.line.actor x) a c) commands (one.right x z a is) in
       let second = subst (λ (c : Command). IsRightTo other 9 k (own_of b.line.actor u) b c) commands_too (two.right u v b also) in
-      silent_pair a b (lower_silent land h a (along edge reverse) speed a.reply first) (lower_silent other k b (along edge reverse) speed b.reply second)
+      silent_pair a b (lower_silent land h a (by_number edge reverse) speed a.reply first) (lower_silent other k b (by_number edge reverse) speed b.reply second)
       (lowering_taken land h all one x z a is edge (commands ∙ low)
-      ∙ ap (λ (l : List Line). nat_lt 10000 (opening_of land.graph (along edge false)) && not (is_named edge l)) before
+      ∙ ap (λ (l : List Line). nat_lt 10000 (opening_of land.graph (by_number edge false)) && not (is_named edge l)) before
       ∙ sym (lowering_taken other k too two u v b also edge (commands_too ∙ low)))
   pair_by x z u v a b is also before same (command.Prepare profile count) commands line =
       let commands_too : b.line.command ≡ command.Prepare profile count = ap (λ (l : Line). l.command) (sym same) ∙ commands in

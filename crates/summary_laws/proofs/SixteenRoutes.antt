@@ -29,7 +29,8 @@ use Rattle.script_text.specs.declared.script.Command.TheVariants as command
 use Rattle.script_text.specs.declared.script.Line.{Line}
 use Rattle.route_sessions.specs.Sessions.{first_rule}
 use Rattle.script_service.specs.Answering.{Answered, lines, own_of}
-use Rattle.script_service.specs.Replying.{IsRightTo, along, reply_of}
+use Rattle.script_service.specs.Replying.{IsRightTo, reply_of}
+use Rattle.summary_laws.proofs.Directions.{by_number}
 use Rattle.generated_run.specs.Generating.{AreRoadsOfSize}
 use Rattle.generated_run.specs.Maps.{id_at}
 use Rattle.generated_run.specs.Scripts.{lowering_at, place_by, route_at}
@@ -118,7 +119,7 @@ module _ (size : ℕ) (two : 2 ≤ size) (few : size ≤ 300) (land : Land) (are
   module _ (journal : List Entry) (all : List Answered) (played : IsPlayed land journal all) (lines_are : lines all ≡ whole size (length land.graph.edges)) where
     routes_by : (x z : List Answered) (a : Answered) → all ≡ x ++ a ∷ z → (c : Command) → a.line.command ≡ c → IsLineOf (length land.graph.edges) a.line.actor c → IsBetweenNodes size c → is_route a.reply ≡ asks c
     routes_by x z a is (command.Lower edge reverse speed) commands line on =
-        (lower_silent land journal a (along edge reverse) speed a.reply (subst (λ (c : Command). IsRightTo land 9 journal (own_of a.line.actor x) a c) commands (played.right x z a is))).0
+        (lower_silent land journal a (by_number edge reverse) speed a.reply (subst (λ (c : Command). IsRightTo land 9 journal (own_of a.line.actor x) a c) commands (played.right x z a is))).0
     routes_by x z a is (command.Prepare profile count) commands line on =
         (prepare_silent land journal a profile count a.reply (subst (λ (c : Command). IsRightTo land 9 journal (own_of a.line.actor x) a c) commands (played.right x z a is))).0.0
     routes_by x z a is (command.Publish profile) commands line on =
