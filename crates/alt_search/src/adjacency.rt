@@ -1,5 +1,5 @@
 //! Roads that are kept as a list of hops for each node.
-ghost use Rattle.std.specs.Prelude.{◌≡◌, ◌<◌, ◌^◌, [], length, All, IsTrue};
+ghost use Rattle.std.specs.Prelude.{◌≡◌, ◌<◌, ◌^◌, [], length, ◌↔◌, All, IsTrue};
 ghost use Rattle.gh_base.specs.Networks.{LeadsToNodes};
 ghost use Rattle.alt_search.specs.Rows.{network_in};
 
@@ -77,7 +77,7 @@ impl<'a> FreshView for Adjacency<'a> {
 
 /// Whether each hop leads to one of the rows.
 pub fn lead_to_rows(rows: &[Hops]) -> bool
-    ensures { IsTrue result → LeadsToNodes (network_in rows.now) }
+    ensures { IsTrue result ↔ LeadsToNodes (network_in rows.now) }
 {
     let count = rows.len();
     for row in rows {
@@ -89,7 +89,7 @@ pub fn lead_to_rows(rows: &[Hops]) -> bool
 }
 
 fn lead_below(row: &[Hop], count: usize) -> bool
-    ensures { IsTrue result → All (λ hop. hop.to.0 < count) row.now }
+    ensures { IsTrue result ↔ All (λ hop. hop.to.0 < count) row.now }
 {
     row.iter().all(|hop| (hop.to.0 as usize) < count)
 }

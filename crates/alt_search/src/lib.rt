@@ -22,4 +22,8 @@ pub use adjacency::{Adjacency, lead_to_rows};
 pub use explored::Explored;
 pub use exploring::{explore, explore_all};
 pub use finding::{Found, search};
+pub use known::next_useful;
 pub use potential::{FlatPotential, ListPotential};
+pub use reach::{Reach, Step};
+pub use reached::Reached;
+pub use tracing::{walk_to, weight_at};
