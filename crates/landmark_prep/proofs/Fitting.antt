@@ -64,4 +64,4 @@ all_fit network grain (landmark ∷ landmarks) (l ∷ labels) fine z =
     All-cons (Fits network) l labels (labels_fit network grain landmark l fine z.0) (all_fit network grain landmarks labels fine z.1)
 
 pub preparation_fits : (network : Network) (count : ℕ) (prep : Preparation) → IsPrepOf network count prep → AreFit network prep
-preparation_fits network count prep p = all_fit network prep.grain prep.landmarks prep.labels (let e = p.grain_is in omega arith) p.labels_are
+preparation_fits network count prep p = all_fit network prep.grain prep.landmarks prep.labels (let e = p.placing.grain_is in omega arith) p.labels_are

@@ -12,7 +12,7 @@ use Rattle.landmark_choice.specs.Farthest.{IsNearAt, AreFarthest, IsChoice, IsGr
 use Rattle.landmark_choice.specs.Parts.{IsLargestPart, SomeHopIsOpen, IsBarred}
 use Rattle.landmark_prep.specs.declared.labels.PackedLabels.{PackedLabels}
 use Rattle.landmark_prep.specs.Packing.{unpacked, unpacked_labels, packed_nodes, AreLong, AreParts}
-use Rattle.landmark_prep.specs.Preparations.{grain_of, AreLabelsOf, IsPrepOf}
+use Rattle.landmark_prep.specs.Preparations.{grain_of, AreLabelsOf, IsPlacing, IsPrepOf}
 use Rattle.landmark_prep.specs.Jobs.{AreRowsOf}
 
 only_one : (s t : ℕ) → Contains (s ∷ []) t → s ≡ t
@@ -92,9 +92,9 @@ parts_made network grain landmarks table some few fine coarse z =
       coarse = coarse;
     }
 
--- what is made of the farthest rule's choice, the grain of the greatest distance and the rows of the landmarks is the preparation
-pub prep_made : (network : Network) (count start far : ℕ) (chosen : List NodeId) (profile grain : ℕ) (snapshot : List ℕ) (table : List PackedLabels) → SomeHopIsOpen network → IsLargestPart network start → IsChoice network start count (map (λ node. node.0) chosen) → IsGreatestDistance network start far → grain ≡ grain_of far → AllZip (AreRowsOf network grain) chosen table → IsPrepOf network count (record { profile = profile; snapshot = snapshot; landmarks = map (λ node. node.0) chosen; grain = grain; labels = map (unpacked_labels grain) table })
-prep_made network count start far chosen profile grain snapshot table some part choice greatest is rows = record {
+-- what is made of the farthest rule's choice and the grain of the greatest distance
+pub placing_made : (network : Network) (count start far : ℕ) (chosen : List ℕ) (grain : ℕ) → SomeHopIsOpen network → IsLargestPart network start → IsChoice network start count chosen → IsGreatestDistance network start far → grain ≡ grain_of far → IsPlacing network count chosen grain
+placing_made network count start far chosen grain some part choice greatest is = record {
   some = some;
   start = start;
   start_is = part;
@@ -102,6 +102,12 @@ prep_made network count start far chosen profile grain snapshot table some part 
   far = far;
   far_is = greatest;
   grain_is = is;
+}
+
+-- what is made of a placing and the rows of its landmarks is the preparation
+pub prep_made : (network : Network) (count : ℕ) (chosen : List NodeId) (profile grain : ℕ) (snapshot : List ℕ) (table : List PackedLabels) → IsPlacing network count (map (λ node. node.0) chosen) grain → AllZip (AreRowsOf network grain) chosen table → IsPrepOf network count (record { profile = profile; snapshot = snapshot; landmarks = map (λ node. node.0) chosen; grain = grain; labels = map (unpacked_labels grain) table })
+prep_made network count chosen profile grain snapshot table placing rows = record {
+  placing = placing;
   labels_are = rows_are_labels network grain chosen table rows;
 }
 

@@ -1,6 +1,6 @@
 -- A network has one preparation, which is also the one for as many landmarks as it has.
 use Rattle.std.specs.List.{AllZip}
-use Rattle.std.proofs.Common.{◌≡◌, ℕ, ◌*◌, ◌<◌, Option, List, [], ◌∷◌, length, take, refl, sym, subst, ap, ◌∙◌, inl, inr, suc, arith}
+use Rattle.std.proofs.Common.{◌≡◌, ℕ, ◌×◌, ◌*◌, ◌<◌, Option, List, [], ◌∷◌, length, take, refl, sym, subst, ap, ◌∙◌, inl, inr, suc, arith}
 use Rattle.std.proofs.lemmas.List.{take_all}
 use Rattle.gh_base.specs.Networks.{Network}
 use Rattle.walk_rules.specs.Distances.{in_grains, label_at}
@@ -9,7 +9,7 @@ use Rattle.landmark_choice.specs.Farthest.{IsChoice, IsGreatestDistance}
 use Rattle.landmark_choice.specs.Parts.{IsLargestPart}
 use Rattle.landmark_choice.proofs.Fronts.{choices_fronts}
 use Rattle.landmark_prep.specs.Packing.{Labels}
-use Rattle.landmark_prep.specs.Preparations.{Preparation, nodes_of, grain_of, AreLabelsOf, IsPrepOf}
+use Rattle.landmark_prep.specs.Preparations.{Preparation, nodes_of, grain_of, AreLabelsOf, IsPlacing, IsPrepOf}
 
 one_start : (network : Network) (a b : ℕ) → IsLargestPart network a → IsLargestPart network b → a ≡ b
 one_start network a b p q =
@@ -54,29 +54,38 @@ same_parts a b p s l g z =
     ∙ ap (λ (x : ℕ). record { profile = b.profile; snapshot = b.snapshot; landmarks = b.landmarks; grain = x; labels = a.labels }) g
     ∙ ap (λ (x : List Labels). record { profile = b.profile; snapshot = b.snapshot; landmarks = b.landmarks; grain = b.grain; labels = x }) z
 
+pub one_placing : (network : Network) (count : ℕ) (landmarks others : List ℕ) (grain other : ℕ) → IsPlacing network count landmarks grain → IsPlacing network count others other → (landmarks ≡ others) × (grain ≡ other)
+one_placing network count landmarks others grain other p q =
+    let start : p.start ≡ q.start = one_start network p.start q.start p.start_is q.start_is in
+    let choice : IsChoice network p.start count others = subst (λ (s : ℕ). IsChoice network s count others) (sym start) q.landmarks_are in
+    let within = p.landmarks_are.within in
+    let front : others ≡ take count landmarks = choices_fronts network p.start count count landmarks others (omega arith) p.landmarks_are choice in
+    let far : p.far ≡ q.far = one_greatest network p.start p.far q.far p.far_is (subst (λ (s : ℕ). IsGreatestDistance network s q.far) (sym start) q.far_is) in
+    (sym (front ∙ take_all count landmarks within), p.grain_is ∙ ap grain_of far ∙ sym q.grain_is)
+
 pub one_preparation : (network : Network) (count : ℕ) (a b : Preparation) → IsPrepOf network count a → IsPrepOf network count b → a.profile ≡ b.profile → a.snapshot ≡ b.snapshot → a ≡ b
 one_preparation network count a b p q profile snapshot =
-    let start : p.start ≡ q.start = one_start network p.start q.start p.start_is q.start_is in
-    let choice : IsChoice network p.start count b.landmarks = subst (λ (s : ℕ). IsChoice network s count b.landmarks) (sym start) q.landmarks_are in
-    let within = p.landmarks_are.within in
-    let front : b.landmarks ≡ take count a.landmarks = choices_fronts network p.start count count a.landmarks b.landmarks (omega arith) p.landmarks_are choice in
-    let landmarks : a.landmarks ≡ b.landmarks = sym (front ∙ take_all count a.landmarks within) in
-    let far : p.far ≡ q.far = one_greatest network p.start p.far q.far p.far_is (subst (λ (s : ℕ). IsGreatestDistance network s q.far) (sym start) q.far_is) in
-    let grain : a.grain ≡ b.grain = p.grain_is ∙ ap grain_of far ∙ sym q.grain_is in
+    let placed = one_placing network count a.landmarks b.landmarks a.grain b.grain p.placing q.placing in
+    let landmarks : a.landmarks ≡ b.landmarks = placed.0 in
+    let grain : a.grain ≡ b.grain = placed.1 in
     let labels : a.labels ≡ b.labels = all_labels network a.grain a.landmarks a.labels b.labels p.labels_are (subst (λ (g : ℕ). AllZip (AreLabelsOf network g) a.landmarks b.labels) (sym grain) (subst (λ (ls : List ℕ). AllZip (AreLabelsOf network b.grain) ls b.labels) (sym landmarks) q.labels_are)) in
     same_parts a b profile snapshot landmarks grain labels
 
 pub landmarks_count : (network : Network) (count : ℕ) (prep : Preparation) → IsPrepOf network count prep → IsPrepOf network (length prep.landmarks) prep
-landmarks_count network count prep p = record {
-  some = p.some;
-  start = p.start;
-  start_is = p.start_is;
-  landmarks_are = record { each = p.landmarks_are.each; within = omega arith; ends = inl refl };
-  far = p.far;
-  far_is = p.far_is;
-  grain_is = p.grain_is;
-  labels_are = p.labels_are;
-}
+landmarks_count network count prep p =
+    let placing = p.placing in
+    record {
+      placing = record {
+        some = placing.some;
+        start = placing.start;
+        start_is = placing.start_is;
+        landmarks_are = record { each = placing.landmarks_are.each; within = omega arith; ends = inl refl };
+        far = placing.far;
+        far_is = placing.far_is;
+        grain_is = placing.grain_is;
+      };
+      labels_are = p.labels_are;
+    }
 
 labels_nodes : (network : Network) (grain : ℕ) (landmarks : List ℕ) (labels : List Labels) → 0 < length landmarks → AllZip (AreLabelsOf network grain) landmarks labels → nodes_of labels ≡ network.nodes
 labels_nodes network grain [] labels some z = absurd (omega arith)
@@ -84,4 +93,4 @@ labels_nodes network grain (l ∷ landmarks) [] some z = absurd z
 labels_nodes network grain (l ∷ landmarks) (x ∷ labels) some z = z.0.from_each
 
 pub nodes_labelled : (network : Network) (count : ℕ) (prep : Preparation) → IsPrepOf network count prep → nodes_of prep.labels ≡ network.nodes
-nodes_labelled network count prep p = labels_nodes network prep.grain prep.landmarks prep.labels p.landmarks_are.each.some p.labels_are
+nodes_labelled network count prep p = labels_nodes network prep.grain prep.landmarks prep.labels p.placing.landmarks_are.each.some p.labels_are

@@ -1,8 +1,8 @@
 -- Laws of preparations, each a statement of its own.
-use Rattle.std.specs.Prelude.{◌≡◌, ℕ, ◌<◌, Option, List, length}
+use Rattle.std.specs.Prelude.{◌≡◌, ℕ, ◌×◌, ◌<◌, Option, List, length}
 use Rattle.gh_base.specs.Networks.{Network}
 use Rattle.landmark_choice.specs.Parts.{IsBarred}
-use Rattle.landmark_prep.specs.Preparations.{Preparation, nodes_of, IsPrepOf}
+use Rattle.landmark_prep.specs.Preparations.{Preparation, nodes_of, IsPlacing, IsPrepOf}
 use Rattle.landmark_prep.specs.Bounds.{AreFit}
 use Rattle.landmark_prep.specs.Choosing.{AreActive}
 
@@ -11,6 +11,11 @@ abbrev pub PreparationsAreOne : Type 0
 PreparationsAreOne = (network : Network) (count : ℕ) (one other : Preparation) →
     IsPrepOf network count one → IsPrepOf network count other →
     one.profile ≡ other.profile → one.snapshot ≡ other.snapshot → one ≡ other
+
+-- its landmarks and its grain are determined
+abbrev pub PlacingsAreOne : Type 0
+PlacingsAreOne = (network : Network) (count : ℕ) (landmarks others : List ℕ) (grain other : ℕ) →
+    IsPlacing network count landmarks grain → IsPlacing network count others other → (landmarks ≡ others) × (grain ≡ other)
 
 -- where a network has a preparation, not every node is barred
 abbrev pub PreparedRoadsAreOpen : Type 0

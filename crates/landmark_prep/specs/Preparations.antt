@@ -31,13 +31,17 @@ pub record AreLabelsOf (network : Network) (grain landmark : ℕ) (labels : Labe
   pub from_it : AreLabelsFrom (in_grains grain network) (65534 * grain) landmark (label_at labels.from)
   pub to_it : AreLabelsTo (in_grains grain network) (65534 * grain) landmark (label_at labels.to)
 
--- the preparation of a network in which some hop has a weight: the farthest rule chooses at most so many landmarks in its largest part, and the greatest distance from that part's least node gives the grain
-pub record IsPrepOf (network : Network) (count : ℕ) (prep : Preparation) : Type 0 where
+-- where landmarks stand: the farthest rule chooses at most so many in the largest part of a network in which some hop has a weight, and the greatest distance from that part's least node gives the grain
+pub record IsPlacing (network : Network) (count : ℕ) (landmarks : List ℕ) (grain : ℕ) : Type 0 where
   pub some : SomeHopIsOpen network
   pub start : ℕ
   pub start_is : IsLargestPart network start
-  pub landmarks_are : IsChoice network start count prep.landmarks
+  pub landmarks_are : IsChoice network start count landmarks
   pub far : ℕ
   pub far_is : IsGreatestDistance network start far
-  pub grain_is : prep.grain ≡ grain_of far
+  pub grain_is : grain ≡ grain_of far
+
+-- the preparation of a network: its landmarks where they are placed, with their labels
+pub record IsPrepOf (network : Network) (count : ℕ) (prep : Preparation) : Type 0 where
+  pub placing : IsPlacing network count prep.landmarks prep.grain
   pub labels_are : AllZip (AreLabelsOf network prep.grain) prep.landmarks prep.labels

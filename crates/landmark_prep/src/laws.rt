@@ -1,9 +1,10 @@
 //! The laws. Each function does nothing: what it ensures is the law.
-ghost use Rattle.landmark_prep.specs.Laws.{PreparationsAreOne, PreparedRoadsAreOpen, LandmarksAreTheCount, NodesAreLabelled, PreparationsFit, ActiveLandmarksAreOne};
+ghost use Rattle.landmark_prep.specs.Laws.{PreparationsAreOne, PlacingsAreOne, PreparedRoadsAreOpen, LandmarksAreTheCount, NodesAreLabelled, PreparationsFit, ActiveLandmarksAreOne};
 
 /// A network has one preparation, which has labels for each node.
 pub fn preparations_are_one()
     ensures one { PreparationsAreOne }
+    ensures placing { PlacingsAreOne }
     ensures count { LandmarksAreTheCount }
     ensures nodes { NodesAreLabelled }
 {}

@@ -22,5 +22,5 @@ pub use landmark_potential::{Goal, LandmarkPotential};
 pub use laws::{
     active_landmarks_are_one, preparations_are_one, preparations_fit, prepared_roads_are_open,
 };
-pub use making::{Made, make_prep};
+pub use making::{Made, Placing, make_prep, place_landmarks};
 pub use preparation::{Prep, of_parts};

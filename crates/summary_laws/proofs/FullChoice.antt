@@ -164,20 +164,20 @@ module _ (size : ℕ) (two : 2 ≤ size) (few : size ≤ 300) (land : Land) (are
 
   pub four_landmarks : (prep : Preparation) → IsPrepOf (network_by car_rule limits land.graph) 4 prep → length prep.landmarks ≡ 4
   four_landmarks prep is =
-      let choice = is.landmarks_are in
+      let choice = is.placing.landmarks_are in
       let near = choice.each.first.at in
       let one = slice_index prep.landmarks 0 in
-      let source : near.source ≡ is.start = elim (Contains-cons_cases is.start [] near.source near.one_of) [
+      let source : near.source ≡ is.placing.start = elim (Contains-cons_cases is.placing.start [] near.source near.one_of) [
         | inl e ↦ sym e
         | inr never ↦ absurd (omega (arith, never.1))
       ] in
-      let begins : near.source < length land.graph.places = subst (λ n. n < length land.graph.places) (sym source) is.start_is.within in
+      let begins : near.source < length land.graph.places = subst (λ n. n < length land.graph.places) (sym source) is.placing.start_is.within in
       let below : one < length land.graph.places =
       walk_within roads (leads_to_nodes Out car_rule limits land.graph are.roads.graph) near.walk.hops near.source one begins near.walk.is_least.walk in
       let within = choice.within in
       elim (cases_lt (length prep.landmarks) 4) [
         | inr full ↦ omega arith
-        | inl short ↦ choice_is_full roads is.start 4 prep.landmarks choice positive
+        | inl short ↦ choice_is_full roads is.placing.start 4 prep.landmarks choice positive
             (leads_out prep.landmarks one short (omega (arith, below, towers_are_ids)) (first_in prep.landmarks choice.each.some))
       ]
 
