@@ -8,11 +8,12 @@ use Rattle.std.proofs.Math.Seq.{take-suc}
 use Rattle.gh_base.specs.declared.edges.NodeId.{NodeId}
 use Rattle.gh_base.specs.Networks.{Network, LeadsToNodes}
 use Rattle.walk_rules.proofs.Walking.{walk_within}
-use Rattle.landmark_choice.specs.Farthest.{IsNearAt, AreFarthest, IsChoice, IsGreatestDistance}
+use Rattle.landmark_choice.specs.Farthest.{IsNearAt, AreFarthest}
 use Rattle.landmark_choice.specs.Parts.{IsLargestPart, SomeHopIsOpen, IsBarred}
 use Rattle.landmark_prep.specs.declared.labels.PackedLabels.{PackedLabels}
+use Rattle.landmark_prep.specs.declared.making.Placing.{Placing}
 use Rattle.landmark_prep.specs.Packing.{unpacked, unpacked_labels, packed_nodes, AreLong, AreParts}
-use Rattle.landmark_prep.specs.Preparations.{grain_of, AreLabelsOf, IsPlacing, IsPrepOf}
+use Rattle.landmark_prep.specs.Preparations.{AreLabelsOf, IsPlacing, IsPrepOf}
 use Rattle.landmark_prep.specs.Jobs.{AreRowsOf}
 
 only_one : (s t : ℕ) → Contains (s ∷ []) t → s ≡ t
@@ -92,18 +93,6 @@ parts_made network grain landmarks table some few fine coarse z =
       coarse = coarse;
     }
 
--- what is made of the farthest rule's choice and the grain of the greatest distance
-pub placing_made : (network : Network) (count start far : ℕ) (chosen : List ℕ) (grain : ℕ) → SomeHopIsOpen network → IsLargestPart network start → IsChoice network start count chosen → IsGreatestDistance network start far → grain ≡ grain_of far → IsPlacing network count chosen grain
-placing_made network count start far chosen grain some part choice greatest is = record {
-  some = some;
-  start = start;
-  start_is = part;
-  landmarks_are = choice;
-  far = far;
-  far_is = greatest;
-  grain_is = is;
-}
-
 -- what is made of a placing and the rows of its landmarks is the preparation
 pub prep_made : (network : Network) (count : ℕ) (chosen : List NodeId) (profile grain : ℕ) (snapshot : List ℕ) (table : List PackedLabels) → IsPlacing network count (map (λ node. node.0) chosen) grain → AllZip (AreRowsOf network grain) chosen table → IsPrepOf network count (record { profile = profile; snapshot = snapshot; landmarks = map (λ node. node.0) chosen; grain = grain; labels = map (unpacked_labels grain) table })
 prep_made network count chosen profile grain snapshot table placing rows = record {
@@ -122,6 +111,14 @@ part_of network part start l e = subst (λ (p : Option NodeId). IfSome p (λ nod
 -- where there is a part, some hop has a weight
 pub open_of : (network : Network) (part : Option NodeId) (start : NodeId) → IfSome part (λ _. SomeHopIsOpen network) → part ≡ Some start → SomeHopIsOpen network
 open_of network part start some e = subst (λ (p : Option NodeId). IfSome p (λ _. SomeHopIsOpen network)) e some
+
+-- what is said of a placing, where there is one
+pub placing_of : (network : Network) (count : ℕ) (found : Option Placing) (placing : Placing) → IfSome found (λ placing. IsPlacing network count (map (λ node. node.0) placing.landmarks) placing.grain) → found ≡ Some placing → IsPlacing network count (map (λ node. node.0) placing.landmarks) placing.grain
+placing_of network count found placing is e = subst (λ (p : Option Placing). IfSome p (λ placing. IsPlacing network count (map (λ node. node.0) placing.landmarks) placing.grain)) e is
+
+-- its grain is coarse enough for 16 bits
+pub coarse_of : (found : Option Placing) (placing : Placing) → IfSome found (λ placing. placing.grain ≤ 2 ^ 46) → found ≡ Some placing → placing.grain ≤ 2 ^ 46
+coarse_of found placing l e = subst (λ (p : Option Placing). IfSome p (λ placing. placing.grain ≤ 2 ^ 46)) e l
 
 -- where some hop has a weight, not every node is barred
 pub open_not_barred : (network : Network) → SomeHopIsOpen network → ((node : ℕ) → node < network.nodes → IsBarred network node) → ⊥

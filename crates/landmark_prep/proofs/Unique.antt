@@ -1,6 +1,6 @@
 -- A network has one preparation, which is also the one for as many landmarks as it has.
 use Rattle.std.specs.List.{AllZip}
-use Rattle.std.proofs.Common.{◌≡◌, ℕ, ◌×◌, ◌*◌, ◌<◌, Option, List, [], ◌∷◌, length, take, refl, sym, subst, ap, ◌∙◌, inl, inr, suc, arith}
+use Rattle.std.proofs.Common.{◌≡◌, ℕ, ◌*◌, ◌<◌, Option, List, [], ◌∷◌, length, take, refl, sym, subst, ap, ◌∙◌, inl, inr, suc, arith}
 use Rattle.std.proofs.lemmas.List.{take_all}
 use Rattle.gh_base.specs.Networks.{Network}
 use Rattle.walk_rules.specs.Distances.{in_grains, label_at}

@@ -1,5 +1,5 @@
 -- Laws of preparations, each a statement of its own.
-use Rattle.std.specs.Prelude.{◌≡◌, ℕ, ◌×◌, ◌<◌, Option, List, length}
+use Rattle.std.specs.Prelude.{◌≡◌, ℕ, ◌<◌, Option, List, length}
 use Rattle.gh_base.specs.Networks.{Network}
 use Rattle.landmark_choice.specs.Parts.{IsBarred}
 use Rattle.landmark_prep.specs.Preparations.{Preparation, nodes_of, IsPlacing, IsPrepOf}

@@ -15,8 +15,6 @@ const WORDS: [&str; 5] = ["serve", "--map", "m", "--form", "plain"];
 
 const TO_PBF: [&str; 7] = ["convert", "--map", "m", "--form", "plain", "--to", "pbf"];
 
-const TO_PLAIN: [&str; 7] = ["convert", "--map", "m", "--form", "pbf", "--to", "plain"];
-
 const NONE: [u64; 0] = [];
 
 const FIRST: [u64; 1] = [1];
@@ -99,85 +97,13 @@ fn outcome_at<R: Threads + Sync, G: Gate>(
 }
 
 #[test]
-fn a_route_is_printed_and_an_empty_script_has_a_journal(rt: HostRuntime) -> Result<(), AllocError> {
-    let script = "actor a\na route n1 n3\na route n1 n9\n";
-    let (text, held) = outcome(
-        &rt,
-        rt.alloc(),
-        &plain_case(MAP.as_bytes(), script.as_bytes()),
-    )?;
-    assert_eq!(rt; text.as_str(), "done");
-    let wanted = "a 1 0 route 133434 2223898 2 0+ 1+\na 2 0 nonode 9\njournal 0\n";
-    assert_eq!(rt; held.as_slice(), wanted.as_bytes());
-    let (text, held) = outcome(&rt, rt.alloc(), &plain_case(MAP.as_bytes(), b""))?;
-    assert_eq!(rt; text.as_str(), "done");
-    assert_eq!(rt; held.as_slice(), b"journal 0\n".as_slice());
-    Ok(())
-}
-
-#[test]
-fn a_run_made_of_a_size_is_summed_up(rt: HostRuntime) -> Result<(), AllocError> {
-    let case = Case {
-        words: &["generate", "--size", "2"],
-        ..plain_case(b"", b"")
-    };
-    let (text, held) = outcome(&rt, rt.alloc(), &case)?;
-    assert_eq!(rt; text.as_str(), "done");
-    let wanted = "nodes 4\nedges 4\nlandmarks 4\nroutes 16\nentries 5\nweight 3688927\n";
-    assert_eq!(rt; held.as_slice(), wanted.as_bytes());
-    let sink_fails = SECOND.as_slice();
-    let (text, held) = outcome(&rt, rt.alloc(), &Case { sink_fails, ..case })?;
-    assert_eq!(rt; text.as_str(), "gh: cannot write");
-    assert_eq!(rt; held.as_slice(), &wanted.as_bytes()[..5]);
-    Ok(())
-}
-
-#[test]
-fn each_edge_of_a_map_has_a_line(rt: HostRuntime) -> Result<(), AllocError> {
-    let map = "n1 y0 x0\nn2 y0 x0.01\nw10 Thighway=secondary Nn1,n2\n";
-    // Nothing reads the script.
-    let case = Case {
-        words: &["roads", "--map", "m", "--form", "plain"],
-        script_fails: &FIRST,
-        ..plain_case(map.as_bytes(), b"")
-    };
-    let (text, held) = outcome(&rt, rt.alloc(), &case)?;
-    assert_eq!(rt; text.as_str(), "done");
-    let wanted =
-        "{\"type\":\"Feature\",\"properties\":{\"edge\":0,\"way\":10,\"base\":1,\"adjacent\":2,\"mm\":1111949,\"forward\":60000,\"reverse\":60000},\"geometry\":{\"type\":\"LineString\",\"coordinates\":[[0,0],[0.01,0]]}}\n";
-    assert_eq!(rt; held.as_slice(), wanted.as_bytes());
-    let sink_fails = SECOND.as_slice();
-    let (text, held) = outcome(&rt, rt.alloc(), &Case { sink_fails, ..case })?;
-    assert_eq!(rt; text.as_str(), "gh: cannot write");
-    assert_eq!(rt; held.as_slice(), &wanted.as_bytes()[..5]);
-    Ok(())
-}
-
-#[test]
-fn each_refusal_has_its_text_and_writes_nothing(rt: HostRuntime) -> Result<(), AllocError> {
+fn what_fails_outside_is_told_and_nothing_is_written(rt: HostRuntime) -> Result<(), AllocError> {
     let map = MAP.as_bytes();
+    let to_pbf = Case {
+        words: &TO_PBF,
+        ..plain_case(map, b"")
+    };
     let cases = [
-        (
-            Case {
-                words: &["serve"],
-                ..plain_case(map, b"")
-            },
-            "gh: usage",
-        ),
-        (
-            Case {
-                words: &["generate", "--size", "301"],
-                ..plain_case(map, b"")
-            },
-            "gh: usage",
-        ),
-        (
-            Case {
-                words: &["roads", "--map", "m", "--form", "plain"],
-                ..plain_case(b"n1 y0 x0\nw10 Thighway=service Nn1,n9\n", b"")
-            },
-            "gh: map: MissingNode way 10 node 9",
-        ),
         (
             Case {
                 words: &["serve", "--map", "x", "--form", "plain"],
@@ -187,34 +113,22 @@ fn each_refusal_has_its_text_and_writes_nothing(rt: HostRuntime) -> Result<(), A
         ),
         (
             Case {
-                map_fails: &FIRST,
-                ..plain_case(map, b"")
-            },
-            "gh: cannot read the map",
-        ),
-        (
-            Case {
                 script_fails: &FIRST,
                 ..plain_case(map, b"")
             },
             "gh: cannot read the script",
         ),
         (
-            plain_case(b"n1 y0\n", b""),
-            "gh: map line 1 byte 5: Missing",
-        ),
-        (
-            plain_case(b"n1 y0 x0\nw10 Thighway=service Nn1,n9\n", b""),
-            "gh: map: MissingNode way 10 node 9",
-        ),
-        (
-            plain_case(map, b"actor a\na fly\n"),
-            "gh: script line 2 byte 2: Word",
+            Case {
+                map_fails: &FIRST,
+                ..to_pbf
+            },
+            "gh: cannot read the map",
         ),
         (
             Case {
                 sink_fails: &FIRST,
-                ..plain_case(map, b"")
+                ..to_pbf
             },
             "gh: cannot write",
         ),
@@ -224,6 +138,29 @@ fn each_refusal_has_its_text_and_writes_nothing(rt: HostRuntime) -> Result<(), A
         assert_eq!(rt; text.as_str(), *wanted);
         assert_eq!(rt; held.len(), 0, "{wanted}");
     }
+    Ok(())
+}
+
+#[test]
+fn what_was_written_before_a_failed_write_stands(rt: HostRuntime) -> Result<(), AllocError> {
+    let generated = Case {
+        words: &["generate", "--size", "2"],
+        sink_fails: &SECOND,
+        ..plain_case(b"", b"")
+    };
+    let (text, held) = outcome(&rt, rt.alloc(), &generated)?;
+    assert_eq!(rt; text.as_str(), "gh: cannot write");
+    assert_eq!(rt; held.as_slice(), b"nodes".as_slice());
+    // Nothing reads the script.
+    let roads = Case {
+        words: &["roads", "--map", "m", "--form", "plain"],
+        script_fails: &FIRST,
+        sink_fails: &SECOND,
+        ..plain_case(MAP.as_bytes(), b"")
+    };
+    let (text, held) = outcome(&rt, rt.alloc(), &roads)?;
+    assert_eq!(rt; text.as_str(), "gh: cannot write");
+    assert_eq!(rt; held.as_slice(), b"{\"typ".as_slice());
     Ok(())
 }
 
@@ -284,75 +221,6 @@ fn a_script_of_one_byte_too_many_is_too_large(rt: HostRuntime) -> Result<(), All
     let (text, held) = outcome(&rt, rt.alloc(), &case)?;
     assert_eq!(rt; text.as_str(), "gh: script bytes over 16777216");
     assert_eq!(rt; held.len(), 0);
-    Ok(())
-}
-
-#[test]
-fn a_map_is_converted_both_ways(rt: HostRuntime) -> Result<(), AllocError> {
-    let alloc = rt.alloc();
-    // A way whose node isn't there is in the grammar: nothing is imported.
-    let map = "n1 y0 x0\nn2 y0 x0.01\nw10 Thighway=secondary Nn1,n2\nw11 Nn1,n9\n";
-    let (text, file) = outcome(
-        &rt,
-        rt.alloc(),
-        &Case {
-            words: &TO_PBF,
-            ..plain_case(map.as_bytes(), b"")
-        },
-    )?;
-    assert_eq!(rt; text.as_str(), "done");
-    let (text, held) = outcome(
-        &rt,
-        rt.alloc(),
-        &Case {
-            words: &TO_PLAIN,
-            ..plain_case(file.as_slice(), b"")
-        },
-    )?;
-    assert_eq!(rt; text.as_str(), "done");
-    assert_eq!(rt; held.as_slice(), map.as_bytes());
-    Ok(())
-}
-
-#[test]
-fn a_conversion_that_is_refused_writes_nothing(rt: HostRuntime) -> Result<(), AllocError> {
-    let cases = [
-        (
-            Case {
-                words: &TO_PBF,
-                ..plain_case(b"n1 y0\n", b"")
-            },
-            "gh: map line 1 byte 5: Missing",
-        ),
-        (
-            Case {
-                words: &TO_PLAIN,
-                ..plain_case(b"", b"")
-            },
-            "gh: map byte 0: NoHeader",
-        ),
-        (
-            Case {
-                words: &TO_PBF,
-                map_fails: &FIRST,
-                ..plain_case(MAP.as_bytes(), b"")
-            },
-            "gh: cannot read the map",
-        ),
-        (
-            Case {
-                words: &TO_PBF,
-                sink_fails: &FIRST,
-                ..plain_case(MAP.as_bytes(), b"")
-            },
-            "gh: cannot write",
-        ),
-    ];
-    for (case, wanted) in &cases {
-        let (text, held) = outcome(&rt, rt.alloc(), case)?;
-        assert_eq!(rt; text.as_str(), *wanted);
-        assert_eq!(rt; held.len(), 0, "{wanted}");
-    }
     Ok(())
 }
 

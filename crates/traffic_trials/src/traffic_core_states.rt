@@ -1,9 +1,9 @@
 //! Limits and slots after each entry of small histories, worked out by hand on three towers in a row.
-ghost use Rattle.std.specs.Prelude.{◌≡◌, ◌<◌, length, IfOk};
+ghost use Rattle.std.specs.Prelude.{◌≡◌, IfOk};
 ghost use Rattle.traffic_core.specs.Standing.{Stands};
 
-use crate::traffic_core_routes::{ROW, ground_of};
-use gh_base::{DirEdge, EdgeId, LimitList, NoMemory, NodeId, Vehicle};
+use crate::row::row_of_towers;
+use gh_base::{DirEdge, EdgeId, LimitList, NoMemory, NodeId};
 use landmark_prep::{Chosen, LabelTable, Prep, of_parts};
 use std::alloc::Global;
 use std::process::Abort;
@@ -75,9 +75,7 @@ fn slot_after<R: Abort>(
 #[test]
 fn the_last_entry_on_a_directed_edge_limits_it(rt: HostRuntime) -> Result<(), Fail> {
     let alloc = rt.alloc();
-    let Some(ground) = ground_of(alloc, ROW, Vehicle::Car) else {
-        return Err(Fail::new("no ground"));
-    };
+    let ground = row_of_towers(alloc)?;
     let mut state = RoadState::with_room(alloc, &ground, 2)?;
     let mut list = EntryList::new(alloc);
     assert!(rt; state.is_empty());
@@ -101,9 +99,7 @@ fn the_last_entry_on_a_directed_edge_limits_it(rt: HostRuntime) -> Result<(), Fa
 #[test]
 fn a_preparation_that_leaves_its_slot_stays_out(rt: HostRuntime) -> Result<(), Fail> {
     let alloc = rt.alloc();
-    let Some(ground) = ground_of(alloc, ROW, Vehicle::Car) else {
-        return Err(Fail::new("no ground"));
-    };
+    let ground = row_of_towers(alloc)?;
     let mut state = RoadState::with_room(alloc, &ground, 4)?;
     let mut list = EntryList::new(alloc);
     let slot = slot_after(&rt, &mut state, &mut list, lower(30_000))?;
@@ -122,9 +118,7 @@ fn a_preparation_that_leaves_its_slot_stays_out(rt: HostRuntime) -> Result<(), F
 #[test]
 fn an_older_preparation_is_published_anew_over_a_newer(rt: HostRuntime) -> Result<(), Fail> {
     let alloc = rt.alloc();
-    let Some(ground) = ground_of(alloc, ROW, Vehicle::Car) else {
-        return Err(Fail::new("no ground"));
-    };
+    let ground = row_of_towers(alloc)?;
     let mut state = RoadState::with_room(alloc, &ground, 4)?;
     let mut list = EntryList::new(alloc);
     let first = Shared::new(alloc, prep_at(alloc, CAR, state.snapshot(alloc)?)?)?;
@@ -143,9 +137,7 @@ fn an_older_preparation_is_published_anew_over_a_newer(rt: HostRuntime) -> Resul
 #[test]
 fn a_preparation_below_the_limits_enters_no_slot(rt: HostRuntime) -> Result<(), Fail> {
     let alloc = rt.alloc();
-    let Some(ground) = ground_of(alloc, ROW, Vehicle::Car) else {
-        return Err(Fail::new("no ground"));
-    };
+    let ground = row_of_towers(alloc)?;
     let mut state = RoadState::with_room(alloc, &ground, 3)?;
     let mut list = EntryList::new(alloc);
     slot_after(&rt, &mut state, &mut list, lower(30_000))?;

@@ -1,10 +1,9 @@
 //! Calls of seats, one after another, on a small map in numbers worked out by hand.
-ghost use Rattle.std.specs.Prelude.{◌≡◌, ◌<◌, length, IfOk};
+ghost use Rattle.std.specs.Prelude.{◌≡◌, length};
 
-use gh_base::{DirEdge, EdgeId, Limits, NoMemory, SureSource};
+use crate::row::row_of_towers;
+use gh_base::{DirEdge, EdgeId, Limits, NoMemory};
 use landmark_prep::Prep;
-use map_import::import;
-use plain_map::read_plain;
 use std::alloc::Global;
 use std::marker::Brand;
 use std::process::Abort;
@@ -12,11 +11,6 @@ use std::test::Fail;
 use std::thread::Threads;
 use traffic_core::{Ground, Query, RoadState};
 use traffic_share::{Asked, Log, LowerReply, Naming, PublishReply, RestoreReply, Seat, TruePrep};
-use weighting::{Profiles, car_profile};
-
-/// Three towers in a row, on roads where cars go 60 km/h.
-const ROW: &str =
-    "n1 y0 x0\nn2 y0 x0.01\nn3 y0 x0.02\nw10 Thighway=secondary Nn1,n2\nw11 Thighway=secondary Nn2,n3\n";
 
 const CAR: u32 = 0;
 
@@ -25,18 +19,6 @@ const SECOND: DirEdge = DirEdge {
     edge: EdgeId(1),
     reverse: false,
 };
-
-/// The ground of a plain map, with one profile, for cars.
-fn ground_of(alloc: Global, map: &str) -> Result<Ground, Fail>
-    ensures { IfOk result (λ made. length made.profiles ≡ 1) }
-{
-    let mut source = SureSource::new(map.as_bytes(), 4096);
-    let map = read_plain(alloc, &mut source)?;
-    let roads = import(alloc, &map)?;
-    let mut profiles = Profiles::new(alloc);
-    profiles.push(car_profile(alloc)?)?;
-    Ok(Ground::new(alloc, roads, profiles)?)
-}
 
 /// A preparation that another list has left behind is refused, at the first directed edge that it would overrate.
 fn refuse_below<J: Naming, R: Threads + Sync + Abort>(
@@ -71,7 +53,7 @@ fn refuse_below<J: Naming, R: Threads + Sync + Abort>(
 #[test]
 fn a_preparation_of_lower_limits_is_not_in_force(rt: HostRuntime) -> Result<(), Fail> {
     let alloc = rt.alloc();
-    let ground = ground_of(alloc, ROW)?;
+    let ground = row_of_towers(alloc)?;
     refuse_below::<Brand, HostRuntime>(&rt, alloc, &ground)?;
     Ok(())
 }
@@ -184,7 +166,7 @@ fn ask_after_changes<J: Naming, R: Threads + Sync + Abort>(
 #[test]
 fn another_seat_finds_each_change_and_answers_by_them(rt: HostRuntime) -> Result<(), Fail> {
     let alloc = rt.alloc();
-    let ground = ground_of(alloc, ROW)?;
+    let ground = row_of_towers(alloc)?;
     ask_after_changes::<Brand, HostRuntime>(&rt, alloc, &ground)?;
     Ok(())
 }
