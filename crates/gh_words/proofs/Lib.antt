@@ -1,3 +1,3 @@
 pub mod Answered
 pub mod Free
-pub mod Sizes
+pub mod Spellings

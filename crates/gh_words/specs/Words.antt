@@ -10,13 +10,15 @@ use Rattle.gh_base.specs.declared.kinds.Form.TheVariants.{Plain, Pbf}
 use Rattle.gh_words.specs.declared.request.Request.{Request}
 use Rattle.gh_words.specs.declared.request.Request.TheVariants as request
 
--- to serve queries from the map of a name, in a form; to write that map in a form; to answer a script made of a size; or
--- to write the roads of the map of a name
+-- to serve queries from the map of a name, in a form; to write that map in a form; to answer a script made of a size; to
+-- write the roads of the map of a name; to prepare it with so many landmarks; or to check a preparation of it
 pub data Asked : Type 0 where
   Serve : (map : List ℕ) → (form : Form) → Asked
   Convert : (map : List ℕ) → (form : Form) → (to : Form) → Asked
   Generate : (size : ℕ) → Asked
   Roads : (map : List ℕ) → (form : Form) → Asked
+  Prep : (map : List ℕ) → (form : Form) → (count : ℕ) → Asked
+  Check : (map : List ℕ) → (form : Form) → Asked
 
 -- what a request says
 abbrev pub asked_by : Request → Asked
@@ -24,6 +26,8 @@ asked_by (request.Serve map form) = Serve map.now form
 asked_by (request.Convert map form to) = Convert map.now form to
 asked_by (request.Generate size) = Generate size
 asked_by (request.Roads map form) = Roads map.now form
+asked_by (request.Prep map form count) = Prep map.now form count
+asked_by (request.Check map form) = Check map.now form
 
 -- an option that stands exactly once, and has one value
 abbrev pub option_of : Word → Rule
@@ -39,10 +43,6 @@ bare_app name = record (new_app name) {
 abbrev pub map_app : Word → App
 map_app name = with_rule (with_rule (bare_app name) (option_of (codes "map"))) (option_of (codes "form"))
 
--- the command `serve`, to clap
-abbrev pub serve_app : App
-serve_app = map_app (codes "serve")
-
 -- the command `convert`, to clap
 abbrev pub convert_app : App
 convert_app = with_rule (map_app (codes "convert")) (option_of (codes "to"))
@@ -51,9 +51,9 @@ convert_app = with_rule (map_app (codes "convert")) (option_of (codes "to"))
 abbrev pub generate_app : App
 generate_app = with_rule (bare_app (codes "generate")) (option_of (codes "size"))
 
--- the command `roads`, to clap
-abbrev pub roads_app : App
-roads_app = map_app (codes "roads")
+-- the command `prep`, to clap
+abbrev pub prep_app : App
+prep_app = with_rule (map_app (codes "prep")) (option_of (codes "count"))
 
 -- a word that is nothing but one or two minus signs
 abbrev pub is_dashes : Word → Bool
@@ -86,38 +86,44 @@ map_in rows = first_of (codes "map") rows >>= name_of
 abbrev pub form_in : Word → List Row → Option Form
 form_in option rows = first_of option rows >>= form_of
 
--- a number from 2 to 300
-pub record IsSize (n : ℕ) : Type 0 where
-  pub least : 2 ≤ n
-  pub most : n ≤ 300
+-- a number from one to another
+pub record IsFrom (lowest highest n : ℕ) : Type 0 where
+  pub least : lowest ≤ n
+  pub most : n ≤ highest
 
--- what is generated is of such a size
-abbrev pub IsOfSize : Request → Type 0
-IsOfSize (request.Generate size) = IsSize size
-IsOfSize request = Unit {0}
+-- sizes and counts of landmarks are within these bounds
+abbrev pub IsInBounds : Request → Type 0
+IsInBounds (request.Generate size) = IsFrom 2 300 size
+IsInBounds (request.Prep map form count) = IsFrom 1 16 count
+IsInBounds request = Unit {0}
 
 abbrev pub begins_with_zero : Word → Bool
 begins_with_zero [] = false
 begins_with_zero (b ∷ bytes) = b == 48
 
--- the number, where it is from 2 to 300
-abbrev pub as_size : ℕ → Option ℕ
-as_size n = if nat_le 2 n && nat_le n 300 then Some n else None
+-- the number, where it is within bounds
+abbrev pub within : ℕ → ℕ → ℕ → Option ℕ
+within least most n = if nat_le least n && nat_le n most then Some n else None
 
--- the size that a word spells, in digits alone and without leading zeros
-abbrev pub size_of : Word → Option ℕ
-size_of word = if begins_with_zero word then None else natural_of 3 word >>= as_size
+-- the number within bounds that a word spells, in at most three digits alone and without leading zeros
+abbrev pub number_of : ℕ → ℕ → Word → Option ℕ
+number_of least most word = if begins_with_zero word then None else natural_of 3 word >>= within least most
 
--- the size among the options
-abbrev pub size_in : List Row → Option ℕ
-size_in rows = first_of (codes "size") rows >>= size_of
+-- such a number that an option of this name gives
+abbrev pub number_in : Word → ℕ → ℕ → List Row → Option ℕ
+number_in option least most rows = first_of option rows >>= number_of least most
 
--- what the options of `serve` say
-abbrev pub serve_in : List Row → Option Asked
-serve_in rows = do
+-- where a map is, and in which form
+pub record MapAt : Type 0 where
+  pub map : List ℕ
+  pub form : Form
+
+-- what the options of a map say
+abbrev pub map_at_in : List Row → Option MapAt
+map_at_in rows = do
   map ← map_in rows
   form ← form_in (codes "form") rows
-  Some (Serve map form)
+  Some (record { map = map; form = form })
 
 -- what the options of `convert` say
 abbrev pub convert_in : List Row → Option Asked
@@ -130,21 +136,39 @@ convert_in rows = do
 -- what the options of `generate` say
 abbrev pub generate_in : List Row → Option Asked
 generate_in rows = do
-  size ← size_in rows
+  size ← number_in (codes "size") 2 300 rows
   Some (Generate size)
 
--- what the options of `roads` say
-abbrev pub roads_in : List Row → Option Asked
-roads_in rows = do
-  map ← map_in rows
-  form ← form_in (codes "form") rows
-  Some (Roads map form)
+-- what the options of `prep` say
+abbrev pub prep_in : List Row → Option Asked
+prep_in rows = do
+  at ← map_at_in rows
+  count ← number_in (codes "count") 1 16 rows
+  Some (Prep at.map at.form count)
 
--- what the words of `serve` ask for, itself the first of them
-unfoldable pub serve_asked : List Word → Option Asked
-serve_asked words = found_in serve_app words >>= serve_in
+-- what the words of a command of this name on a map say, itself the first of them
+unfoldable pub map_words : Word → List Word → Option MapAt
+map_words name words = found_in (map_app name) words >>= map_at_in
 
--- what the words of `convert` ask for, alike
+-- what the words of `serve` ask for
+abbrev pub serve_asked : List Word → Option Asked
+serve_asked words = do
+  at ← map_words (codes "serve") words
+  Some (Serve at.map at.form)
+
+-- what the words of `roads` ask for
+abbrev pub roads_asked : List Word → Option Asked
+roads_asked words = do
+  at ← map_words (codes "roads") words
+  Some (Roads at.map at.form)
+
+-- what the words of `check` ask for
+abbrev pub check_asked : List Word → Option Asked
+check_asked words = do
+  at ← map_words (codes "check") words
+  Some (Check at.map at.form)
+
+-- what the words of `convert` ask for, itself the first of them
 unfoldable pub convert_asked : List Word → Option Asked
 convert_asked words = found_in convert_app words >>= convert_in
 
@@ -152,9 +176,9 @@ convert_asked words = found_in convert_app words >>= convert_in
 unfoldable pub generate_asked : List Word → Option Asked
 generate_asked words = found_in generate_app words >>= generate_in
 
--- what the words of `roads` ask for, alike
-unfoldable pub roads_asked : List Word → Option Asked
-roads_asked words = found_in roads_app words >>= roads_in
+-- what the words of `prep` ask for, alike
+unfoldable pub prep_asked : List Word → Option Asked
+prep_asked words = found_in prep_app words >>= prep_in
 
 -- what the words ask for, by the first of them; none where they are refused
 unfoldable pub asked : List Word → Option Asked
@@ -164,6 +188,8 @@ asked (first ∷ words) =
     else if bytes_eq first (codes "convert") then convert_asked (first ∷ words)
     else if bytes_eq first (codes "generate") then generate_asked (first ∷ words)
     else if bytes_eq first (codes "roads") then roads_asked (first ∷ words)
+    else if bytes_eq first (codes "prep") then prep_asked (first ∷ words)
+    else if bytes_eq first (codes "check") then check_asked (first ∷ words)
     else None
 
 -- what the words of a command line ask for

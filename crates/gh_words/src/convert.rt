@@ -2,7 +2,7 @@
 ghost use Rattle.std.specs.Prelude.{◌≡◌, IfOk, IfSome, IsErrOf, map, string_bytes, None, Some};
 ghost use Rattle.std.specs.Option.{option_map};
 ghost use Rattle.clap.specs.Words.{app_of, found_of, rows_of};
-ghost use Rattle.gh_words.specs.Words.{IsOfSize, convert_app, convert_asked, convert_in, asked_by};
+ghost use Rattle.gh_words.specs.Words.{IsInBounds, convert_app, convert_asked, convert_in, asked_by};
 
 use crate::options::{find_options, form_given, map_command, map_given, with_option};
 use crate::request::{Request, WordsFault};
@@ -20,7 +20,7 @@ fn convert_command<'a>(alloc: Global) -> Result<Command<'a>, AllocError>
 /// What the options say.
 fn convert_given<'a>(matches: &ArgMatches<'a>) -> Option<Request<'a>>
     ensures given { option_map asked_by result ≡ convert_in (rows_of (found_of matches.now)) }
-    ensures size { IfSome result IsOfSize }
+    ensures bounds { IfSome result IsInBounds }
 {
     let map = map_given(matches)?;
     let form = form_given(matches, "form")?;
@@ -35,7 +35,7 @@ pub(crate) fn read_convert<'a>(
     words: &'a [String],
 ) -> Result<Request<'a>, WordsFault>
     ensures request { IfOk result (λ r. convert_asked (map (λ w. string_bytes w) words.entry.now) ≡ Some (asked_by r)) }
-    ensures size { IfOk result IsOfSize }
+    ensures bounds { IfOk result IsInBounds }
     ensures usage { IsErrOf result WordsFault.Usage → convert_asked (map (λ w. string_bytes w) words.entry.now) ≡ None }
 {
     let matches = find_options(convert_command(alloc)?, words)?;

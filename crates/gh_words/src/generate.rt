@@ -1,13 +1,12 @@
 //! The words of `generate`.
-ghost use Rattle.std.specs.Prelude.{◌≡◌, ℕ, IfOk, IfSome, IsErrOf, map, string_bytes, decimal, None, Some};
+ghost use Rattle.std.specs.Prelude.{◌≡◌, IfOk, IfSome, IsErrOf, map, string_bytes, None, Some};
 ghost use Rattle.std.specs.Option.{option_map};
 ghost use Rattle.clap.specs.Words.{app_of, found_of, rows_of};
-ghost use Rattle.gh_words.specs.Words.{IsOfSize, IsSize, asked_by, begins_with_zero, generate_app, generate_asked, generate_in, size_of};
+ghost use Rattle.gh_words.specs.Words.{IsInBounds, asked_by, generate_app, generate_asked, generate_in};
 
-use crate::options::{bare_command, find_options, value_given, with_option};
+use crate::options::{bare_command, find_options, number_given, with_option};
 use crate::request::{Request, WordsFault};
 use clap::{ArgMatches, Command};
-use gh_base::read_natural;
 use std::alloc::{AllocError, Global};
 
 /// The command `generate`, which asks for a size alone.
@@ -17,36 +16,12 @@ fn generate_command<'a>(alloc: Global) -> Result<Command<'a>, AllocError>
     with_option(alloc, bare_command(alloc, "generate"), "size")
 }
 
-fn has_leading_zero(text: &[u8]) -> bool
-    ensures { result ≡ begins_with_zero text.now }
-{
-    matches!(text, [b'0', ..])
-}
-
-/// The size that a word spells. It is the decimal text of exactly the sizes.
-fn size_read(word: &str) -> Option<u32>
-    ensures value { result ≡ size_of word.now }
-    ensures size { IfSome result IsSize }
-    ensures spelled { IfSome result (λ n. word.now ≡ decimal n) }
-    ensures each { (n : ℕ) → IsSize n → word.now ≡ decimal n → result ≡ Some n }
-{
-    if has_leading_zero(word.as_bytes()) {
-        return None;
-    }
-    let n = read_natural(word.as_bytes(), 3)?;
-    if 2 <= n && n <= 300 {
-        Some(n as u32)
-    } else {
-        None
-    }
-}
-
 /// What the options say.
 fn generate_given<'a>(matches: &ArgMatches<'a>) -> Option<Request<'a>>
     ensures given { option_map asked_by result ≡ generate_in (rows_of (found_of matches.now)) }
-    ensures size { IfSome result IsOfSize }
+    ensures bounds { IfSome result IsInBounds }
 {
-    let size = size_read(value_given(matches, "size")?)?;
+    let size = number_given(matches, "size", 2, 300)?;
     Some(Request::Generate { size })
 }
 
@@ -57,7 +32,7 @@ pub(crate) fn read_generate<'a>(
     words: &'a [String],
 ) -> Result<Request<'a>, WordsFault>
     ensures request { IfOk result (λ r. generate_asked (map (λ w. string_bytes w) words.entry.now) ≡ Some (asked_by r)) }
-    ensures size { IfOk result IsOfSize }
+    ensures bounds { IfOk result IsInBounds }
     ensures usage { IsErrOf result WordsFault.Usage → generate_asked (map (λ w. string_bytes w) words.entry.now) ≡ None }
 {
     let matches = find_options(generate_command(alloc)?, words)?;

@@ -7,10 +7,11 @@
 
 mod convert;
 mod generate;
+mod numbers;
+mod on_map;
 mod options;
+mod prep;
 mod request;
-mod roads;
-mod serve;
 mod words;
 
 pub use request::{Request, WordsFault};

@@ -1,10 +1,11 @@
 //! What the commands share: their options, and how clap finds them.
-ghost use Rattle.std.specs.Prelude.{◌≡◌, ◌≢◌, IfOk, IsErrOf, map, string_bytes, true, None, Some};
+ghost use Rattle.std.specs.Prelude.{◌≡◌, ◌≢◌, ◌≤◌, IfOk, IfSome, IsErrOf, map, string_bytes, true, None, Some};
 ghost use Rattle.std.specs.List.{list_any};
 ghost use Rattle.std.specs.Option.{option_map};
 ghost use Rattle.clap.specs.Words.{app_of, first_of, found_of, is_simple_and_free, kind_of, rows_of, with_rule};
-ghost use Rattle.gh_words.specs.Words.{bare_app, map_app, option_of, found_in, map_in, form_in, name_of, form_of, is_dashes};
+ghost use Rattle.gh_words.specs.Words.{IsFrom, bare_app, map_app, option_of, found_in, map_in, form_in, number_in, name_of, form_of, is_dashes};
 
+use crate::numbers::number_read;
 use crate::request::WordsFault;
 use clap::error::ErrorKind;
 use clap::{Arg, ArgAction, ArgMatches, Command, Error};
@@ -124,4 +125,19 @@ pub(crate) fn form_given(matches: &ArgMatches<'_>, option: &str) -> Option<Form>
     ensures { result ≡ form_in option.now (rows_of (found_of matches.now)) }
 {
     form_read(value_given(matches, option)?)
+}
+
+/// The number from `least` to `most` that an option gives.
+pub(crate) fn number_given(
+    matches: &ArgMatches<'_>,
+    option: &str,
+    least: u32,
+    most: u32,
+) -> Option<u32>
+    requires some { 1 ≤ least }
+    requires few { most ≤ 999 }
+    ensures value { result ≡ number_in option.now least most (rows_of (found_of matches.now)) }
+    ensures bounds { IfSome result (IsFrom least most) }
+{
+    number_read(value_given(matches, option)?, least, most)
 }

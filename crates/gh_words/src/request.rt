@@ -7,13 +7,36 @@ use thiserror::Error;
 #[derive(Clone, Copy, Debug, PartialEq, Eq)]
 pub enum Request<'a> {
     /// To answer queries over the map of this name, which is in this form.
-    Serve { map: &'a str, form: Form },
+    Serve {
+        map: &'a str,
+        form: Form,
+    },
     /// To write the map of this name, which is in `form`, in the form `to`.
-    Convert { map: &'a str, form: Form, to: Form },
+    Convert {
+        map: &'a str,
+        form: Form,
+        to: Form,
+    },
     /// To answer a script over a grid of `size` rows and columns, both made of this number, and write a summary.
-    Generate { size: u32 },
+    Generate {
+        size: u32,
+    },
     /// To write the roads of the map of this name, which is in this form, each as a line of GeoJSON.
-    Roads { map: &'a str, form: Form },
+    Roads {
+        map: &'a str,
+        form: Form,
+    },
+    /// To write a preparation with at most `count` landmarks of the map of this name, which is in this form.
+    Prep {
+        map: &'a str,
+        form: Form,
+        count: u32,
+    },
+    /// To check a preparation that was written of the map of this name, which is in this form.
+    Check {
+        map: &'a str,
+        form: Form,
+    },
 }
 
 /// Why words are no request.

@@ -1,5 +1,5 @@
--- A size is read from its decimal text and from no other word.
-use Rattle.std.proofs.Common.{◌≡◌, ◌∙◌, ap, sym, subst, refl, arith, ℕ, ◌+◌, ◌-◌, ◌*◌, ◌^◌, ◌<◌, Bool, true, false, ◌&&◌, List, [], ◌∷◌, length, get_or, Some, None}
+-- A number is read from its decimal text and from no other word.
+use Rattle.std.proofs.Common.{◌≡◌, ◌∙◌, ap, sym, subst, refl, arith, ℕ, ◌+◌, ◌-◌, ◌*◌, ◌^◌, ◌<◌, ◌≤◌, Bool, true, false, ◌&&◌, List, [], ◌∷◌, length, get_or, Some, None}
 use Rattle.std.specs.Prelude.{decimal, nat_le, nat_lt, ◌==◌, if◌then◌else◌}
 use Rattle.std.proofs.lemmas.Bool.Decides.{nat_tests}
 use Rattle.std.proofs.lemmas.Bool.{and_parts, leb-true, le-leb}
@@ -10,7 +10,7 @@ use Rattle.std.specs.Char.{digit_value, is_ascii_digit}
 use Rattle.std.specs.Int.{IsInRange}
 use Rattle.std.specs.Str.Parse.{AllDigits, digits_value_after}
 use Rattle.gh_base.specs.Decimals.{digits_from, natural_of}
-use Rattle.gh_words.specs.Words.{IsSize, begins_with_zero}
+use Rattle.gh_words.specs.Words.{begins_with_zero}
 
 -- what the digits of a text spell is std's value of them
 told : (n m : ℕ) (xs : List ℕ) → digits_from n xs ≡ Some m → AllDigits 10 xs × (digits_value_after 10 n xs ≡ m)
@@ -59,12 +59,10 @@ starts_so : (word : List ℕ) → 48 < get_or word 0 0 → begins_with_zero word
 starts_so [] high = refl
 starts_so (b ∷ bytes) high = grind (arith, nat_tests)
 
--- and from its decimal text each size is read
-pub reads : (word : List ℕ) (n : ℕ) → IsSize n → word ≡ decimal n → (begins_with_zero word ≡ false) × (natural_of 3 word ≡ Some n)
+-- and from its decimal text each number of at most three digits is read
+pub reads : (word : List ℕ) (n : ℕ) → 1 ≤ n → n ≤ 999 → word ≡ decimal n → (begins_with_zero word ≡ false) × (natural_of 3 word ≡ Some n)
 unfolding natural_of
-reads word n is text =
-    let least = is.least in
-    let most = is.most in
+reads word n least most text =
     let numeral = decimal_is_IsNumeral n (omega (arith, most)) in
     let other : begins_with_zero (decimal n) ≡ false = starts_so (decimal n) (first_decimal n (omega (arith, least)) (omega (arith, most))) in
     let some : nat_lt 0 (length (decimal n)) ≡ true = let l = numeral.0.0 in grind (arith, nat_tests) in
