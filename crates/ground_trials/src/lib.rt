@@ -1,4 +1,4 @@
-//! Tries public calls of the crates below all others: `gh_base`, `geo_math` and `gh_words`.
+//! Tries public calls of the crates below all others: `gh_base` and `geo_math`.
 //!
 //! It is no part of the program: tests stand here since a crate with tests is proved twice.
 #![tactic(auto)]
@@ -7,5 +7,3 @@
 mod geo_math_calls;
 #[cfg(test)]
 mod gh_base_calls;
-#[cfg(test)]
-mod gh_words_calls;
