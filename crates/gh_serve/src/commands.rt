@@ -29,22 +29,27 @@ pub(crate) fn serve_map<R: Threads + Sync, F: Files, I: Source, K: Sink, G: Gate
     gate: &G,
 ) -> Status
     ensures done { result ≡ Status.Done → IfSome (F.holds files.old name.now) (λ held.
-        IfSome (I.left script.old) (λ bytes. Serves form held bytes (K.held out.old) (K.held out.new))) }
+        IfSome (I.left script.old) (λ bytes.
+        Serves form held bytes (K.held out.old) (K.held out.new))) }
     ensures map { IfSome (F.holds files.old name.now) (MapSays result form) }
     ensures script { IfSome (I.left script.old) (ScriptSays result) }
-    ensures labels { IfSome (F.holds files.old name.now) (λ held. IfSome (I.left script.old) (λ bytes.
-        LabelsSay result form held bytes)) }
+    ensures labels { IfSome (F.holds files.old name.now) (λ held.
+        IfSome (I.left script.old) (λ bytes. LabelsSay result form held bytes)) }
     ensures statuses { IsOfService result }
-    ensures open { result ≡ Status.OpenFault →
-        Rose (F.failed_brings files.old (F.mark_of files.old name.now)) (F.failed_brings files.new (F.mark_of files.old name.now)) }
+    ensures open { result ≡ Status.OpenFault → let mark = F.mark_of files.old name.now in
+        Rose (F.failed_brings files.old mark) (F.failed_brings files.new mark) }
     ensures read_map { result ≡ Status.ReadFault Which.Map →
-        Rose (F.failed_takes files.old (F.mark_of files.old name.now)) (F.failed_takes files.new (F.mark_of files.old name.now)) }
-    ensures read_script { result ≡ Status.ReadFault Which.Script → Rose (I.faults script.old) (I.faults script.new) }
+        let mark = F.mark_of files.old name.now in
+        Rose (F.failed_takes files.old mark) (F.failed_takes files.new mark) }
+    ensures read_script { result ≡ Status.ReadFault Which.Script →
+        Rose (I.faults script.old) (I.faults script.new) }
     ensures write { result ≡ Status.WriteFault → Rose (K.faults out.old) (K.faults out.new) }
     ensures front { result ≡ Status.WriteFault → IfSome (F.holds files.old name.now) (λ held.
-        IfSome (I.left script.old) (λ bytes. ServesFront form held bytes (K.held out.old) (K.held out.new))) }
+        IfSome (I.left script.old) (λ bytes.
+        ServesFront form held bytes (K.held out.old) (K.held out.new))) }
     ensures part { result ≡ Status.NoMemory → IfSome (F.holds files.old name.now) (λ held.
-        IfSome (I.left script.old) (λ bytes. ServesPart form held bytes (K.held out.old) (K.held out.new))) }
+        IfSome (I.left script.old) (λ bytes.
+        ServesPart form held bytes (K.held out.old) (K.held out.new))) }
     ensures nothing { IsUnwritten result → Keeps (K.held out.old) (K.held out.new) }
 {
     let roads = match read_roads(alloc, files, name, form) {
@@ -71,10 +76,10 @@ pub(crate) fn convert_map<F: Files, K: Sink>(
         Converts form to held (K.held out.old) (K.held out.new)) }
     ensures map { IfSome (F.holds files.old name.now) (ConversionSays result form to) }
     ensures statuses { IsOfConversion result }
-    ensures open { result ≡ Status.OpenFault →
-        Rose (F.failed_brings files.old (F.mark_of files.old name.now)) (F.failed_brings files.new (F.mark_of files.old name.now)) }
-    ensures read { result ≡ Status.ReadFault Which.Map →
-        Rose (F.failed_takes files.old (F.mark_of files.old name.now)) (F.failed_takes files.new (F.mark_of files.old name.now)) }
+    ensures open { result ≡ Status.OpenFault → let mark = F.mark_of files.old name.now in
+        Rose (F.failed_brings files.old mark) (F.failed_brings files.new mark) }
+    ensures read { result ≡ Status.ReadFault Which.Map → let mark = F.mark_of files.old name.now in
+        Rose (F.failed_takes files.old mark) (F.failed_takes files.new mark) }
     ensures write { result ≡ Status.WriteFault → Rose (K.faults out.old) (K.faults out.new) }
     ensures front { result ≡ Status.WriteFault → IfSome (F.holds files.old name.now) (λ held.
         ConvertsFront form to held (K.held out.old) (K.held out.new)) }
@@ -102,10 +107,10 @@ pub(crate) fn roads_map<F: Files, K: Sink>(
         WritesRoads form held (K.held out.old) (K.held out.new)) }
     ensures map { IfSome (F.holds files.old name.now) (MapSays result form) }
     ensures statuses { IsOfRoads result }
-    ensures open { result ≡ Status.OpenFault →
-        Rose (F.failed_brings files.old (F.mark_of files.old name.now)) (F.failed_brings files.new (F.mark_of files.old name.now)) }
-    ensures read { result ≡ Status.ReadFault Which.Map →
-        Rose (F.failed_takes files.old (F.mark_of files.old name.now)) (F.failed_takes files.new (F.mark_of files.old name.now)) }
+    ensures open { result ≡ Status.OpenFault → let mark = F.mark_of files.old name.now in
+        Rose (F.failed_brings files.old mark) (F.failed_brings files.new mark) }
+    ensures read { result ≡ Status.ReadFault Which.Map → let mark = F.mark_of files.old name.now in
+        Rose (F.failed_takes files.old mark) (F.failed_takes files.new mark) }
     ensures write { result ≡ Status.WriteFault → Rose (K.faults out.old) (K.faults out.new) }
     ensures front { result ≡ Status.WriteFault → IfSome (F.holds files.old name.now) (λ held.
         WritesRoadsFront form held (K.held out.old) (K.held out.new)) }

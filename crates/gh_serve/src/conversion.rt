@@ -37,8 +37,10 @@ fn check_fit(alloc: Global, map: &OsmMap, to: Form) -> Result<(), Status>
 fn write_map<K: Sink>(alloc: Global, map: &OsmMap, to: Form, out: &mut K) -> Result<(), GiveFault>
     requires { FitsIn to map.now }
     ensures ok { OnOk result (Appends (K.held out.old) (K.held out.new) (text_in to map.now)) }
-    ensures err { OnErr result (AppendsFront (K.held out.old) (K.held out.new) (text_in to map.now)) }
-    ensures fault { IsErrOf result GiveFault.WriteFault → Rose (K.faults out.old) (K.faults out.new) }
+    ensures err { OnErr result
+        (AppendsFront (K.held out.old) (K.held out.new) (text_in to map.now)) }
+    ensures fault { IsErrOf result GiveFault.WriteFault →
+        Rose (K.faults out.old) (K.faults out.new) }
 {
     match to {
         Form::Plain => print_plain(alloc, map, out),
@@ -48,9 +50,9 @@ fn write_map<K: Sink>(alloc: Global, map: &OsmMap, to: Form, out: &mut K) -> Res
 
 /// Writes the map that a source holds in another form, or in the same.
 ///
-/// A map that isn't in its grammar, or has a way that PBF has no room for, is refused before anything is written.
-/// After `WriteFault`, which comes only where a call of the sink failed, and after `NoMemory` the sink has a front of the
-/// text behind its old bytes.
+/// A map that isn't in its grammar, or has a way that PBF has no room for, is refused before
+/// anything is written. After `WriteFault`, which comes only where a call of the sink failed, and after
+/// `NoMemory` the sink has a front of the text behind its old bytes.
 pub fn convert<S: Source, K: Sink>(
     alloc: Global,
     source: &mut S,
@@ -58,14 +60,21 @@ pub fn convert<S: Source, K: Sink>(
     to: Form,
     out: &mut K,
 ) -> Status
-    ensures done { result ≡ Status.Done → IfSome (S.left source.old) (λ held. Converts form to held (K.held out.old) (K.held out.new)) }
+    ensures done { result ≡ Status.Done →
+        IfSome (S.left source.old) (λ held.
+        Converts form to held (K.held out.old) (K.held out.new)) }
     ensures map { IfSome (S.left source.old) (ConversionSays result form to) }
     ensures statuses { IsOfConversion result }
     ensures opened { result ≢ Status.OpenFault }
-    ensures read { result ≡ Status.ReadFault Which.Map → Rose (S.faults source.old) (S.faults source.new) }
+    ensures read { result ≡ Status.ReadFault Which.Map →
+        Rose (S.faults source.old) (S.faults source.new) }
     ensures write { result ≡ Status.WriteFault → Rose (K.faults out.old) (K.faults out.new) }
-    ensures front { result ≡ Status.WriteFault → IfSome (S.left source.old) (λ held. ConvertsFront form to held (K.held out.old) (K.held out.new)) }
-    ensures part { result ≡ Status.NoMemory → IfSome (S.left source.old) (λ held. ConvertsPart form to held (K.held out.old) (K.held out.new)) }
+    ensures front { result ≡ Status.WriteFault →
+        IfSome (S.left source.old) (λ held.
+        ConvertsFront form to held (K.held out.old) (K.held out.new)) }
+    ensures part { result ≡ Status.NoMemory →
+        IfSome (S.left source.old) (λ held.
+        ConvertsPart form to held (K.held out.old) (K.held out.new)) }
     ensures nothing { IsUnwritten result → Keeps (K.held out.old) (K.held out.new) }
     ensures later { S.faults source.old ≤ S.faults source.new }
     ensures mark { S.mark source.new ≡ S.mark source.old }

@@ -26,8 +26,10 @@ pub fn generate<R: Threads + Sync, K: Sink, G: Gate>(
     requires few { size ≤ 300 }
     ensures statuses { IsOfRun result }
     ensures generated { result ≡ Status.Done → Generates size (K.held out.old) (K.held out.new) }
-    ensures generated_complete { IsCalm (K.faults out.old) (K.faults out.new) → IsDoneOrNoMemory result }
-    ensures front { result ≡ Status.WriteFault → GeneratesFront size (K.held out.old) (K.held out.new) }
+    ensures generated_complete { IsCalm (K.faults out.old) (K.faults out.new) →
+        IsDoneOrNoMemory result }
+    ensures front { result ≡ Status.WriteFault →
+        GeneratesFront size (K.held out.old) (K.held out.new) }
     ensures part { result ≡ Status.NoMemory → Keeps (K.held out.old) (K.held out.new) }
     ensures write { result ≡ Status.WriteFault → Rose (K.faults out.old) (K.faults out.new) }
 {

@@ -52,56 +52,27 @@ fn status_of_pbf(fault: PbfFault) -> Status
     }
 }
 
-fn read_plain_map<S: Source>(alloc: Global, source: &mut S) -> Result<OsmMap, Status>
-    ensures map { IfOk result (λ map. IfSome (S.left source.old) (λ held. IsShortMap held × ReadsAs Form.Plain held map)) }
-    ensures err { IfErr result (λ status. IfSome (S.left source.old) (MapSays status Form.Plain)) }
-    ensures early { IfErr result IsOfReading }
-    ensures brought { IsErrOf result Status.OpenFault → ⊥ }
-    ensures read { IsErrOf result (Status.ReadFault Which.Map) → Rose (S.faults source.old) (S.faults source.new) }
-    ensures later { S.faults source.old ≤ S.faults source.new }
-    ensures mark { S.mark source.new ≡ S.mark source.old }
-    ensures on_earth { IfOk result (λ map. All (λ (node : OsmNode). IsOnEarth node.place) map.nodes) }
-{
-    match read_plain(alloc, source) {
-        Ok(map) => Ok(map),
-        Err(fault) => Err(status_of_plain(fault)),
-    }
-}
-
-fn read_pbf_map<S: Source>(alloc: Global, source: &mut S) -> Result<OsmMap, Status>
-    ensures map { IfOk result (λ map. IfSome (S.left source.old) (λ held. IsShortMap held × ReadsAs Form.Pbf held map)) }
-    ensures err { IfErr result (λ status. IfSome (S.left source.old) (MapSays status Form.Pbf)) }
-    ensures early { IfErr result IsOfReading }
-    ensures brought { IsErrOf result Status.OpenFault → ⊥ }
-    ensures read { IsErrOf result (Status.ReadFault Which.Map) → Rose (S.faults source.old) (S.faults source.new) }
-    ensures later { S.faults source.old ≤ S.faults source.new }
-    ensures mark { S.mark source.new ≡ S.mark source.old }
-    ensures on_earth { IfOk result (λ map. All (λ (node : OsmNode). IsOnEarth node.place) map.nodes) }
-{
-    match read_pbf(alloc, source) {
-        Ok(map) => Ok(map),
-        Err(fault) => Err(status_of_pbf(fault)),
-    }
-}
-
 /// Reads a map in a form.
 pub(crate) fn read_map<S: Source>(
     alloc: Global,
     source: &mut S,
     form: Form,
 ) -> Result<OsmMap, Status>
-    ensures map { IfOk result (λ map. IfSome (S.left source.old) (λ held. IsShortMap held × ReadsAs form held map)) }
+    ensures map { IfOk result (λ map. IfSome (S.left source.old) (λ held.
+        IsShortMap held × ReadsAs form held map)) }
     ensures err { IfErr result (λ status. IfSome (S.left source.old) (MapSays status form)) }
     ensures early { IfErr result IsOfReading }
     ensures brought { IsErrOf result Status.OpenFault → ⊥ }
-    ensures read { IsErrOf result (Status.ReadFault Which.Map) → Rose (S.faults source.old) (S.faults source.new) }
+    ensures read { IsErrOf result (Status.ReadFault Which.Map) →
+        Rose (S.faults source.old) (S.faults source.new) }
     ensures later { S.faults source.old ≤ S.faults source.new }
     ensures mark { S.mark source.new ≡ S.mark source.old }
-    ensures on_earth { IfOk result (λ map. All (λ (node : OsmNode). IsOnEarth node.place) map.nodes) }
+    ensures on_earth { IfOk result (λ map. All (λ
+        (node : OsmNode). IsOnEarth node.place) map.nodes) }
 {
     match form {
-        Form::Plain => read_plain_map(alloc, source),
-        Form::Pbf => read_pbf_map(alloc, source),
+        Form::Plain => read_plain(alloc, source).map_err(status_of_plain),
+        Form::Pbf => read_pbf(alloc, source).map_err(status_of_pbf),
     }
 }
 
@@ -112,12 +83,18 @@ fn bring_map<F: Files>(
     name: &str,
     form: Form,
 ) -> Result<OsmMap, Status>
-    ensures map { IfOk result (λ map. IfSome (F.holds files.old name.now) (λ held. IsShortMap held × ReadsAs form held map)) }
-    ensures err { IfErr result (λ status. IfSome (F.holds files.old name.now) (MapSays status form)) }
+    ensures map { IfOk result (λ map. IfSome (F.holds files.old name.now) (λ held.
+        IsShortMap held × ReadsAs form held map)) }
+    ensures err { IfErr result (λ status. IfSome (F.holds files.old name.now)
+        (MapSays status form)) }
     ensures early { IfErr result IsOfReading }
-    ensures open { IsErrOf result Status.OpenFault → Rose (F.failed_brings files.old (F.mark_of files.old name.now)) (F.failed_brings files.new (F.mark_of files.old name.now)) }
-    ensures read { IsErrOf result (Status.ReadFault Which.Map) → Rose (F.failed_takes files.old (F.mark_of files.old name.now)) (F.failed_takes files.new (F.mark_of files.old name.now)) }
-    ensures on_earth { IfOk result (λ map. All (λ (node : OsmNode). IsOnEarth node.place) map.nodes) }
+    ensures open { IsErrOf result Status.OpenFault → let mark = F.mark_of files.old name.now in
+        Rose (F.failed_brings files.old mark) (F.failed_brings files.new mark) }
+    ensures read { IsErrOf result (Status.ReadFault Which.Map) →
+        let mark = F.mark_of files.old name.now in
+        Rose (F.failed_takes files.old mark) (F.failed_takes files.new mark) }
+    ensures on_earth { IfOk result (λ map. All (λ
+        (node : OsmNode). IsOnEarth node.place) map.nodes) }
 {
     let Ok(mut source) = files.bring(name) else {
         return Err(Status::OpenFault);
@@ -147,11 +124,16 @@ pub(crate) fn read_roads<F: Files>(
     name: &str,
     form: Form,
 ) -> Result<Roads, Status>
-    ensures map { IfOk result (λ roads. IfSome (F.holds files.old name.now) (λ held. IsShortMap held × AreRoadsRead form held roads)) }
-    ensures err { IfErr result (λ status. IfSome (F.holds files.old name.now) (MapSays status form)) }
+    ensures map { IfOk result (λ roads. IfSome (F.holds files.old name.now) (λ held.
+        IsShortMap held × AreRoadsRead form held roads)) }
+    ensures err { IfErr result (λ status. IfSome (F.holds files.old name.now)
+        (MapSays status form)) }
     ensures early { IfErr result IsOfMap }
-    ensures open { IsErrOf result Status.OpenFault → Rose (F.failed_brings files.old (F.mark_of files.old name.now)) (F.failed_brings files.new (F.mark_of files.old name.now)) }
-    ensures read { IsErrOf result (Status.ReadFault Which.Map) → Rose (F.failed_takes files.old (F.mark_of files.old name.now)) (F.failed_takes files.new (F.mark_of files.old name.now)) }
+    ensures open { IsErrOf result Status.OpenFault → let mark = F.mark_of files.old name.now in
+        Rose (F.failed_brings files.old mark) (F.failed_brings files.new mark) }
+    ensures read { IsErrOf result (Status.ReadFault Which.Map) →
+        let mark = F.mark_of files.old name.now in
+        Rose (F.failed_takes files.old mark) (F.failed_takes files.new mark) }
     ensures lengths { IfOk result (λ roads. AreAsLong roads.graph.lists) }
     ensures ids { IfOk result (λ roads. length roads.ids ≡ length roads.graph.lists.places) }
     ensures distinct { IfOk result (λ roads. IsDistinct int_eq roads.ids) }
@@ -197,13 +179,16 @@ pub(crate) fn read_roads_and_ways<F: Files>(
 ) -> Result<RoadsAndWays, Status>
     ensures map { IfOk result (λ read. IfSome (F.holds files.old name.now) (λ held.
         IsShortMap held × AreRoadsAndWays form held read.roads read.ways)) }
-    ensures err { IfErr result (λ status. IfSome (F.holds files.old name.now) (MapSays status form)) }
+    ensures err { IfErr result (λ status. IfSome (F.holds files.old name.now)
+        (MapSays status form)) }
     ensures early { IfErr result IsOfMap }
-    ensures open { IsErrOf result Status.OpenFault →
-        Rose (F.failed_brings files.old (F.mark_of files.old name.now)) (F.failed_brings files.new (F.mark_of files.old name.now)) }
+    ensures open { IsErrOf result Status.OpenFault → let mark = F.mark_of files.old name.now in
+        Rose (F.failed_brings files.old mark) (F.failed_brings files.new mark) }
     ensures read { IsErrOf result (Status.ReadFault Which.Map) →
-        Rose (F.failed_takes files.old (F.mark_of files.old name.now)) (F.failed_takes files.new (F.mark_of files.old name.now)) }
-    ensures ids { IfOk result (λ read. length read.roads.ids ≡ length read.roads.graph.lists.places) }
+        let mark = F.mark_of files.old name.now in
+        Rose (F.failed_takes files.old mark) (F.failed_takes files.new mark) }
+    ensures ids { IfOk result
+        (λ read. length read.roads.ids ≡ length read.roads.graph.lists.places) }
     ensures ways { IfOk result (λ read. length read.ways ≡ length read.roads.graph.lists.edges) }
 {
     let map = match bring_map(alloc, files, name, form) {

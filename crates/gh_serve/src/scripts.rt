@@ -17,7 +17,8 @@ fn read_bytes<I: Source>(alloc: Global, source: &mut I) -> Result<Vec<u8>, Statu
     ensures short { IfOk result (λ bytes. length bytes.items ≤ 16777216) }
     ensures err { IfErr result (λ status. IfSome (I.left source.old) (ScriptSays status)) }
     ensures early { IfErr result IsOfScript }
-    ensures read { IsErrOf result (Status.ReadFault Which.Script) → Rose (I.faults source.old) (I.faults source.new) }
+    ensures read { IsErrOf result (Status.ReadFault Which.Script) →
+        Rose (I.faults source.old) (I.faults source.new) }
 {
     match read_whole(alloc, source, LONGEST_SCRIPT) {
         Ok(bytes) => Ok(bytes),
@@ -51,7 +52,8 @@ pub(crate) fn read_whole_script<I: Source>(
     alloc: Global,
     source: &mut I,
 ) -> Result<ScriptRead, Status>
-    ensures read { IfOk result (λ read. IfSome (I.left source.old) (λ held. IsScriptRead held read)) }
+    ensures read { IfOk result (λ read. IfSome (I.left source.old)
+        (λ held. IsScriptRead held read)) }
     ensures script { IfOk result (λ read. IsScript read.profiles read.script) }
     ensures err { IfErr result (λ status. IfSome (I.left source.old) (ScriptSays status)) }
     ensures early { IfErr result IsOfScript }

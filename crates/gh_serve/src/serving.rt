@@ -34,11 +34,14 @@ pub fn serve_script<R: Threads + Sync, K: Sink, G: Gate>(
     requires { IsScript ground.now.profiles script.now }
     ensures statuses { IsOfRun result }
     ensures done { result ≡ Status.Done →
-        (text : List ℕ) × Fits ground.now script.now text × Appends (K.held out.old) (K.held out.new) text }
+        (text : List ℕ) × Fits ground.now script.now text
+        × Appends (K.held out.old) (K.held out.new) text }
     ensures front { result ≡ Status.WriteFault →
-        (text : List ℕ) × BeginsOrFits ground.now script.now text × AppendsFront (K.held out.old) (K.held out.new) text }
+        (text : List ℕ) × BeginsOrFits ground.now script.now text
+        × AppendsFront (K.held out.old) (K.held out.new) text }
     ensures part { result ≡ Status.NoMemory →
-        (text : List ℕ) × BeginsText ground.now script.now text × Appends (K.held out.old) (K.held out.new) text }
+        (text : List ℕ) × BeginsText ground.now script.now text
+        × Appends (K.held out.old) (K.held out.new) text }
     ensures cause { result ≡ Status.WriteFault → Rose (K.faults out.old) (K.faults out.new) }
 {
     match script_service::serve_script(rt, alloc, ground, script, out, gate) {
@@ -62,13 +65,17 @@ pub(crate) fn serve<R: Threads + Sync, K: Sink, G: Gate>(
     requires distinct { IsDistinct int_eq roads.ids }
     requires script { IsScript read.profiles read.script }
     ensures statuses { IsOfAnswering result }
-    ensures labels { CountSays result (labels_asked (size_of (land_of roads read.profiles)) read.script) }
+    ensures labels { CountSays result
+        (labels_asked (size_of (land_of roads read.profiles)) read.script) }
     ensures done { result ≡ Status.Done →
-        (text : List ℕ) × Fits (land_of roads read.profiles) read.script text × Appends (K.held out.old) (K.held out.new) text }
+        (text : List ℕ) × Fits (land_of roads read.profiles) read.script text
+        × Appends (K.held out.old) (K.held out.new) text }
     ensures front { result ≡ Status.WriteFault →
-        (text : List ℕ) × BeginsOrFits (land_of roads read.profiles) read.script text × AppendsFront (K.held out.old) (K.held out.new) text }
+        (text : List ℕ) × BeginsOrFits (land_of roads read.profiles) read.script text
+        × AppendsFront (K.held out.old) (K.held out.new) text }
     ensures part { result ≡ Status.NoMemory → Keeps (K.held out.old) (K.held out.new)
-        ⊎ ((text : List ℕ) × BeginsText (land_of roads read.profiles) read.script text × Appends (K.held out.old) (K.held out.new) text) }
+        ⊎ ((text : List ℕ) × BeginsText (land_of roads read.profiles) read.script text
+        × Appends (K.held out.old) (K.held out.new) text) }
     ensures nothing { IsUnwritten result → Keeps (K.held out.old) (K.held out.new) }
     ensures cause { result ≡ Status.WriteFault → Rose (K.faults out.old) (K.faults out.new) }
 {

@@ -1,6 +1,6 @@
 use Rattle.std.proofs.Common.{subst}
 use Rattle.gh_serve.proofs.top.run.Goals as goal
-use Rattle.gh_words.specs.Words.{IsOfSize}
+use Rattle.gh_words.specs.Words.{IsInBounds}
 use Rattle.gh_serve.proofs.Complete.{serves_complete, converts_complete, tells_complete}
 use Rattle.gh_serve.proofs.Unwritten.{never_unwritten}
 
@@ -17,10 +17,10 @@ returns-in-Ok-Roads-clause-roads_complete g c =
     rw (c.in-Ok-Roads.ensures.request, c.in-Ok-Roads.field-0-is) (tells_complete c.roads_map.result c.in-Ok-Roads.form _ _ _ _ _ _ _ c.roads_map.ensures.statuses c.roads_map.ensures.map c.roads_map.ensures.open c.roads_map.ensures.read c.roads_map.ensures.write)
 
 pub generate-requires-clause-two : goal.generate-requires-clause-two
-generate-requires-clause-two g c = λ _ _. (subst IsOfSize c.in-Ok-Generate.field-0-is c.in-Ok-Generate.ensures.size).least
+generate-requires-clause-two g c = λ _ _. (subst IsInBounds c.in-Ok-Generate.field-0-is c.in-Ok-Generate.ensures.bounds).least
 
 pub generate-requires-clause-few : goal.generate-requires-clause-few
-generate-requires-clause-few g c = λ _ _. (subst IsOfSize c.in-Ok-Generate.field-0-is c.in-Ok-Generate.ensures.size).most
+generate-requires-clause-few g c = λ _ _. (subst IsInBounds c.in-Ok-Generate.field-0-is c.in-Ok-Generate.ensures.bounds).most
 
 pub returns-in-Ok-Generate-clause-nothing : goal.returns-in-Ok-Generate-clause-nothing
 returns-in-Ok-Generate-clause-nothing g c =
