@@ -13,7 +13,8 @@ mod replies;
 mod sealed;
 mod seat;
 
+pub use listed::Listed;
 pub use log::Log;
 pub use replies::{LowerReply, PublishReply, RestoreReply};
 pub use sealed::{Naming, Sealed, TruePrep};
-pub use seat::{Asked, Seat};
+pub use seat::{Asked, Seat, prepare_over};

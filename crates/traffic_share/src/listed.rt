@@ -7,14 +7,15 @@ use gh_base::{DirEdge, LimitList, Limits};
 
 /// The limits of a graph's directed edges in a list: two an edge, forward first.
 #[derive(Drop)]
-pub(crate) struct Listed<'a> {
+pub struct Listed<'a> {
     graph: &'a BaseGraph,
     list: &'a LimitList,
     ghost long: { length list.now ≡ 2 * length graph.now.lists.edges },
 }
 
 impl<'a> Listed<'a> {
-    pub(crate) fn new(graph: &'a BaseGraph, list: &'a LimitList) -> Listed<'a>
+    /// The limits in a list.
+    pub fn new(graph: &'a BaseGraph, list: &'a LimitList) -> Listed<'a>
         requires { length list.now ≡ 2 * length graph.now.lists.edges }
         ensures edges { ⟦<Listed<'a> as Limits>⟧.edges result ≡ length graph.now.lists.edges }
         ensures limits { ⟦<Listed<'a> as Limits>⟧.limit_of result ≡ limit_in list.now }

@@ -49,7 +49,7 @@ impl<'l, 'g, J: Naming> Seat<'l, 'g, J> {
         let state = self.state();
         let limits = state.snapshot(self.alloc)?;
         let snapshot = state.snapshot(self.alloc)?;
-        let made = make_over(
+        let made = prepare_over(
             rt,
             self.alloc,
             state.ground(),
@@ -62,8 +62,9 @@ impl<'l, 'g, J: Naming> Seat<'l, 'g, J> {
     }
 }
 
-/// What is made of the roads at limits, as a profile alone weighs them. `snapshot` is what it keeps of the limits.
-fn make_over<R: Threads + Sync>(
+/// The preparation of the roads at limits, as a profile alone weighs them, with at most `count` landmarks (1 to 16), its
+/// labels spread on threads. `snapshot` is what it keeps of the limits.
+pub fn prepare_over<R: Threads + Sync>(
     rt: &R,
     alloc: Global,
     ground: &Ground,
