@@ -17,4 +17,4 @@ pub use listed::Listed;
 pub use log::Log;
 pub use replies::{LowerReply, PublishReply, RestoreReply};
 pub use sealed::{Naming, Sealed, TruePrep};
-pub use seat::{Asked, Seat, prepare_over};
+pub use seat::{Asked, Seat, prepare_at};

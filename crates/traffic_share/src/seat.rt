@@ -16,7 +16,7 @@ use crate::sealed::{Naming, Sealed};
 pub use asking::Asked;
 use gh_base::NoMemory;
 use once_cell::race::Note;
-pub use preparing::prepare_over;
+pub use preparing::prepare_at;
 use std::alloc::Global;
 use std::marker::Model;
 use traffic_core::{Entry, Ground, RoadState};

@@ -1,10 +1,12 @@
 //! How a seat makes a preparation of the roads after its list.
-ghost use Rattle.std.specs.Prelude.{◌≡◌, ◌↔◌, ℕ, ◌*◌, ◌≤◌, ◌<◌, length, IfOk, MatchOption};
+ghost use Rattle.std.specs.Prelude.{◌≡◌, ◌↔◌, ℕ, ◌*◌, ◌≤◌, ◌<◌, List, length, IfOk, MatchOption};
 ghost use Rattle.walk_rules.specs.Walks.{AreTurned};
 ghost use Rattle.landmark_choice.specs.Parts.{IsBarred};
 ghost use Rattle.landmark_prep.specs.Preparations.{IsPrepOf};
 ghost use Rattle.landmark_prep.specs.Answers.{IfPrep, IsNoLandmark};
+ghost use Rattle.traffic_core.specs.declared.entry.Entry.{Entry};
 ghost use Rattle.traffic_core.specs.History.{limit_in};
+ghost use Rattle.traffic_core.specs.Standing.{Stands};
 ghost use Rattle.traffic_core.specs.Truth.{network_at, IsPrepAt, IsNoPrepAt};
 
 use super::Seat;
@@ -14,7 +16,7 @@ use gh_base::{LimitList, Limits, NoMemory, RoadView};
 use landmark_prep::{Made, make_prep, preparations_are_one};
 use std::alloc::Global;
 use std::thread::Threads;
-use traffic_core::{Ground, Shared};
+use traffic_core::{Ground, RoadState, Shared};
 use weighting::{Side, WeightView, Weighting, sides_are_turned};
 
 impl<'l, 'g, J: Naming> Seat<'l, 'g, J> {
@@ -32,39 +34,39 @@ impl<'l, 'g, J: Naming> Seat<'l, 'g, J> {
         ensures { IfOk result (λ made. MatchOption made (IsNoPrepAt J.land self.now.entries profile) (λ prep. IsPrepAt J.land self.now.entries profile count prep)) }
     {
         preparations_are_one();
-        match self.make(rt, profile, count)? {
+        match prepare_at(rt, self.alloc, self.state(), profile, count)? {
             Made::Prep(prep) => Ok(Some(TruePrep::new(Shared::new(self.alloc, prep)?))),
             Made::NoLandmark => Ok(None),
         }
     }
-
-    /// What is made of the roads after the list.
-    fn make<R: Threads + Sync>(&self, rt: &R, profile: u32, count: u32) -> Result<Made, NoMemory>
-        requires profile { profile < length J.land.profiles }
-        requires some { 1 ≤ count }
-        requires few { count ≤ 16 }
-        ensures prep { IfOk result (λ made. IfPrep made (λ prep. IsPrepAt J.land self.now.entries profile count prep)) }
-        ensures none { IfOk result (λ made. IsNoLandmark made → IsNoPrepAt J.land self.now.entries profile) }
-    {
-        let state = self.state();
-        let limits = state.snapshot(self.alloc)?;
-        let snapshot = state.snapshot(self.alloc)?;
-        let made = prepare_over(
-            rt,
-            self.alloc,
-            state.ground(),
-            &limits,
-            profile,
-            snapshot,
-            count,
-        )?;
-        Ok(made)
-    }
 }
 
-/// The preparation of the roads at limits, as a profile alone weighs them, with at most `count` landmarks (1 to 16), its
-/// labels spread on threads. `snapshot` is what it keeps of the limits.
-pub fn prepare_over<R: Threads + Sync>(
+/// The preparation of a profile at a state's limits, with at most `count` landmarks (1 to 16), its labels spread on threads.
+pub fn prepare_at<R: Threads + Sync>(
+    rt: &R,
+    alloc: Global,
+    state: &RoadState<'_>,
+    profile: u32,
+    count: u32,
+) -> Result<Made, NoMemory>
+    requires stands { (h : List Entry) × Stands state.now h }
+    requires profile { profile < length state.now.land.profiles }
+    requires some { 1 ≤ count }
+    requires few { count ≤ 16 }
+    ensures prep { (h : List Entry) → Stands state.now h →
+        IfOk result (λ made. IfPrep made (λ prep. IsPrepAt state.now.land h profile count prep)) }
+    ensures none { (h : List Entry) → Stands state.now h →
+        IfOk result (λ made. IsNoLandmark made → IsNoPrepAt state.now.land h profile) }
+{
+    let limits = state.snapshot(alloc)?;
+    let snapshot = state.snapshot(alloc)?;
+    let ground = state.ground();
+    let made = make_over(rt, alloc, ground, &limits, profile, snapshot, count)?;
+    Ok(made)
+}
+
+/// What is made of the roads at limits, as a profile alone weighs them. `snapshot` is what it keeps of the limits.
+fn make_over<R: Threads + Sync>(
     rt: &R,
     alloc: Global,
     ground: &Ground,

@@ -1,7 +1,7 @@
 use Rattle.traffic_core.specs.History.{limit_in}
 use Rattle.traffic_core.specs.Truth.{network_at}
 use Rattle.traffic_share.proofs.PreparationsAfter.{network_is, made_of, turned_as, barred_of}
-use Rattle.traffic_share.proofs.seat.preparing.prepare_over.Goals as goal
+use Rattle.traffic_share.proofs.seat.preparing.make_over.Goals as goal
 
 pub make_of-requires-clause-turned : goal.make_of-requires-clause-turned
 make_of-requires-clause-turned g c κs within =
