@@ -1,5 +1,5 @@
 -- How a table of restrictions is made: by node, and then by tower.
-use Rattle.std.specs.Prelude.{ℤ, Bool, ◌&&◌, Option, Some, None, List, []}
+use Rattle.std.specs.Prelude.{ℤ, Bool, ◌&&◌, cond, Option, Some, None, List, [], ◌∷◌}
 use Rattle.std.specs.Ordering.{int_eq}
 use Rattle.std.specs.List.{list_any}
 use Rattle.gh_base.specs.declared.edges.DirEdge.{DirEdge}
@@ -10,6 +10,10 @@ use Rattle.turn_graph.specs.Restrictions.{way_of}
 abbrev pub turns_in : Option (List Turn) → List Turn
 turns_in None = []
 turns_in (Some turns) = turns
+
+-- a restriction, if it is over this node
+abbrev pub those_at : ℤ → Turn → List Turn
+those_at id turn = cond (int_eq id turn.via) (turn ∷ []) []
 
 -- those of a tower's id, if it has one
 abbrev pub standing_at : (ℤ → Option (List Turn)) → Option ℤ → List Turn

@@ -1,6 +1,6 @@
 -- Each hop by states leads to a state.
 use Rattle.std.specs.Prelude.{◌≡◌, ◌≢◌, ℕ, zero, suc, ◌+◌, ◌*◌, ◌<◌, ◌⊎◌, cond, Bool, true, false, not, Option, Some, List, [], ◌∷◌, ◌++◌, map, filter, length, Contains, refl}
-use Rattle.std.proofs.Common.{sym, ap, inl, inr, arith}
+use Rattle.std.proofs.Common.{sym, ap, ◌∙◌, inl, inr, arith}
 use Rattle.std.proofs.lemmas.Bool.{cases_Bool}
 use Rattle.std.proofs.lemmas.List.Elements.{Contains-append_cases}
 use Rattle.gh_base.specs.declared.edges.DirEdge.{DirEdge}
@@ -35,7 +35,7 @@ from_filter p (y ∷ xs) x c = elim (cases_Bool (p y)) [
   | inr f ↦ let rest = from_filter p xs x (rw f at c) in ((suc rest.0.0, omega (arith, rest.0.1), rest.0.2), rest.1)
 ]
 
-number_below : (edges : ℕ) (by : DirEdge) → by.edge.0 < edges → number_of by < 2 * edges
+pub number_below : (edges : ℕ) (by : DirEdge) → by.edge.0 < edges → number_of by < 2 * edges
 number_below edges by l = elim (cases_Bool by.reverse) [
   | inl t ↦ rw t (omega arith)
   | inr f ↦ rw f (omega arith)
@@ -48,7 +48,7 @@ to_of_state graph base is node hops hop within c =
     let l = number_below (length graph.edges) from.0.by (is.hops node from.0 (within from.0 from.1)).is_edge in
     omega arith
 
-to_of_arrival : (edges : ℕ) (by : DirEdge) (b : Bool) (hop : Hop) → Contains (arrivals edges by b) hop → arrival edges by ≡ hop
+pub to_of_arrival : (edges : ℕ) (by : DirEdge) (b : Bool) (hop : Hop) → Contains (arrivals edges by b) hop → arrival edges by ≡ hop
 to_of_arrival edges by false hop c = absurd (omega (arith, c.1))
 to_of_arrival edges by true hop c = elim (first_or_later (arrival edges by) [] hop c) [
   | inl e ↦ e

@@ -1,5 +1,5 @@
 -- Roads by what was passed (edge-based graphs, as of OSRM and GraphHopper): a state is a directed edge that was passed, the start, or the target.
-use Rattle.std.specs.Prelude.{◌≡◌, ℕ, ◌+◌, ◌*◌, ◌/◌, ◌%◌, ◌<◌, ◌==◌, nat_lt, cond, Bool, true, false, not, if◌then◌else◌, Option, Some, List, [], ◌∷◌, ◌++◌, ⊤, map, filter, length, All, Contains}
+use Rattle.std.specs.Prelude.{◌≡◌, ◌≢◌, ℕ, ◌+◌, ◌*◌, ◌/◌, ◌%◌, ◌<◌, ◌==◌, nat_lt, cond, Bool, true, false, not, if◌then◌else◌, Option, Some, List, [], ◌∷◌, ◌++◌, map, filter, length, All, Contains}
 use Rattle.gh_base.specs.declared.edges.DirEdge.{DirEdge}
 use Rattle.gh_base.specs.declared.edges.Hop.{Hop}
 use Rattle.gh_base.specs.Networks.{Network}
@@ -83,11 +83,10 @@ pub record IsOver (graph : Graph) (network : Network) : Type 0 where
   pub nodes : network.nodes ≡ length graph.places
   pub hops : (node : ℕ) (hop : Hop) → Contains (hops_from network node) hop → IsOverEdge graph hop
 
--- the hops to go on with are directed edges of the graph
-abbrev pub AreKnown : Graph → State → List Hop → Type 0
-AreKnown graph Start hops = All (λ hop. hop.by.edge.0 < length graph.edges) hops
-AreKnown graph (Passed by) hops = (by.edge.0 < length graph.edges) × All (λ hop. hop.by.edge.0 < length graph.edges) hops
-AreKnown graph Target hops = ⊤
+-- the directed edge that was passed is one of the graph, and the hops to go on with are over such
+pub record AreKnown (graph : Graph) (state : State) (hops : List Hop) : Type 0 where
+  pub passed : (by : DirEdge) → state ≡ Passed by → by.edge.0 < length graph.edges
+  pub next : state ≢ Target → All (λ hop. hop.by.edge.0 < length graph.edges) hops
 
 -- a walk's hops behind a directed edge, by states, and the arrival
 abbrev pub onward : ℕ → DirEdge → List Hop → List Hop

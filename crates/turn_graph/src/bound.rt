@@ -27,7 +27,7 @@ impl<'a, P: Potential> TurnPotential<'a, P> {
         ensures feasible { (base : Network) (is_banned : DirEdge → DirEdge → Bool) (to : ℕ) → IsOver graph.now.lists base →
             IsFeasible base (P.bound inner) to →
             IsFeasible (by_states (record { base = base; graph = graph.now.lists; is_banned = is_banned; from = from.0; to = to }))
-                (⟦<TurnPotential<'a, P> as Potential>⟧.bound result) (target_in graph.now.lists) }
+            (⟦<TurnPotential<'a, P> as Potential>⟧.bound result) (target_in graph.now.lists) }
     {
         TurnPotential { inner, graph, from }
     }

@@ -37,11 +37,7 @@ pub(crate) fn end_of(graph: &BaseGraph, by: DirEdge) -> NodeId
     ensures { result.0 ≡ end_of graph.now.lists by }
 {
     let ends = graph.edge(by.edge);
-    if by.reverse {
-        ends.base
-    } else {
-        ends.adjacent
-    }
+    if by.reverse { ends.base } else { ends.adjacent }
 }
 
 /// A hop to having passed the directed edge of a base's hop.

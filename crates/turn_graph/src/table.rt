@@ -54,12 +54,8 @@ impl<'a> TurnTable<'a> {
         requires to { to.edge.0 < length self.now.ways }
         ensures { result ≡ list_any (bans self.now.ways from to) (row_at self.now tower.0) }
     {
-        for turn in &self.rows[tower.0 as usize].turns {
-            if is_banned_by(self.ways, turn, from, to) {
-                return true;
-            }
-        }
-        false
+        let row = &self.rows[tower.0 as usize];
+        is_banned_by_any(self.ways, &row.turns, from, to)
     }
 }
 
@@ -69,6 +65,15 @@ pub(crate) fn way_of(ways: &IdList, by: DirEdge) -> i64
     ensures { result ≡ way_of ways.now by }
 {
     ways.as_slice()[by.edge.0 as usize]
+}
+
+/// Whether one of these restrictions of the tower between them bans the turn.
+fn is_banned_by_any(ways: &IdList, turns: &[Turn], from: DirEdge, to: DirEdge) -> bool
+    requires from { from.edge.0 < length ways.now }
+    requires to { to.edge.0 < length ways.now }
+    ensures { result ≡ list_any (bans ways.now from to) turns.now }
+{
+    turns.iter().any(|turn| is_banned_by(ways, turn, from, to))
 }
 
 /// Whether a restriction of the tower between them bans the turn from one directed edge to another.

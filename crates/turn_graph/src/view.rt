@@ -93,17 +93,17 @@ impl<'a, V: RoadView> RoadView for TurnView<'a, V> {
     }
 
     fn start_at(&mut self, node: NodeId) {
-        let state = state_by(self.graph.edge_count(), node);
-        match state {
+        self.state = state_by(self.graph.edge_count(), node);
+        self.arrives = false;
+        match self.state {
             State::Start => self.base.start_at(self.from),
-            State::Passed(by) => self.base.start_at(end_of(self.graph, by)),
+            State::Passed(by) => {
+                let end = end_of(self.graph, by);
+                self.base.start_at(end);
+                self.arrives = end.0 == self.to.0;
+            }
             State::Target => self.own_starts += 1,
         }
-        self.arrives = match state {
-            State::Passed(by) => end_of(self.graph, by).0 == self.to.0,
-            _ => false,
-        };
-        self.state = state;
     }
 
     fn next_hop(&mut self) -> Option<Hop> {
