@@ -1,12 +1,12 @@
 -- What starts at a tower: directed edges of the graph, and a way that has one there both starts and ends there.
-use Rattle.std.specs.List.{list_any, sum_by}
+use Rattle.std.specs.List.{list_any}
 use Rattle.std.specs.Ordering.{int_eq}
-use Rattle.std.proofs.Common.{◌≡◌, ℕ, ℤ, zero, suc, ◌+◌, ◌<◌, ◌≤◌, ◌==◌, ◌||◌, ◌&&◌, nat_lt, not, cond, count_by, Bool, true, false, List, [], ◌∷◌, length, All, Contains, refl, sym, ap, ◌∙◌, inl, inr, arith}
+use Rattle.std.proofs.Common.{◌≡◌, ℕ, ℤ, suc, ◌<◌, ◌≤◌, ◌==◌, nat_lt, not, count_by, Bool, true, List, [], ◌∷◌, length, All, Contains, refl, ap, ◌∙◌, inl, inr, arith}
 use Rattle.std.proofs.lemmas.Bool.{cases_Bool, and_parts, and_from, eq-eqb, eqb-true, lt-ltb}
 use Rattle.std.proofs.lemmas.Bool.Decides.{Decides-int_eq}
 use Rattle.std.proofs.lemmas.List.Elements.{All-weaker, All-contains_itself}
 use Rattle.gh_base.specs.declared.edges.DirEdge.{DirEdge}
-use Rattle.base_graph.specs.Graphs.{Graph, IsGraph, edge_at, head, tail, around_of, times, is_same, starts_at}
+use Rattle.base_graph.specs.Graphs.{Graph, IsGraph, around_of, times, is_same, starts_at}
 use Rattle.base_graph.specs.Facts.{edge_is}
 use Rattle.base_graph.specs.Starting.{around_edge, around_starts}
 use Rattle.turn_graph.specs.Restrictions.{Streets, EndsAt, StartsAt, end_of, start_of, way_of}

@@ -1,17 +1,16 @@
 -- A feasible potential of towers is feasible by states.
-use Rattle.std.proofs.Common.{◌≡◌, ℕ, ◌+◌, ◌*◌, ◌<◌, ◌==◌, not, Bool, true, false, Option, Some, List, [], ◌++◌, map, filter, length, IsSome, Contains, refl, sym, subst, ap, ◌∙◌, inl, inr, arith}
+use Rattle.std.proofs.Common.{◌≡◌, ℕ, ◌==◌, not, Bool, Option, Some, map, filter, length, IsSome, Contains, sym, subst, ap, ◌∙◌, inl, inr, arith}
 use Rattle.std.proofs.lemmas.Bool.{cases_Bool, eqb-true}
 use Rattle.std.proofs.lemmas.List.Elements.{Contains-append_cases}
-use Rattle.gh_base.specs.declared.edges.DirEdge.{DirEdge}
 use Rattle.gh_base.specs.declared.edges.Hop.{Hop}
 use Rattle.walk_rules.specs.Walks.{hops_from, cost}
 use Rattle.walk_rules.specs.Potentials.{IsWithin, IsFeasible}
 use Rattle.turn_graph.specs.declared.state.State.{State}
 use Rattle.turn_graph.specs.declared.state.State.TheVariants.{Start, Passed, Target}
 use Rattle.turn_graph.specs.Restrictions.{end_of}
-use Rattle.turn_graph.specs.States.{number_of, onto_state, arrival, arrivals, Trip, is_last, hops_at, by_states, state_by, target_in, IsOver}
+use Rattle.turn_graph.specs.States.{number_of, onto_state, arrivals, Trip, is_last, hops_at, by_states, state_by, target_in, IsOver}
 use Rattle.turn_graph.specs.Bounds.{bound_at, bound_by}
-use Rattle.turn_graph.specs.Leading.{from_map, from_filter, to_of_arrival}
+use Rattle.turn_graph.specs.Leading.{from_map, from_filter}
 use Rattle.turn_graph.proofs.Numbers.{state_passed, state_target}
 
 module _ (trip : Trip) (over : IsOver trip.graph trip.base) (inner : ℕ → Option ℕ) (feasible : IsFeasible trip.base inner trip.to) where

@@ -1,13 +1,12 @@
 -- The tests of a table decide what is banned.
-use Rattle.std.specs.List.{list_any}
 use Rattle.std.specs.Ordering.{int_eq}
-use Rattle.std.proofs.Common.{◌≡◌, ◌≢◌, ◌↔◌, ℕ, ℤ, ◌<◌, ◌==◌, ◌&&◌, ◌||◌, not, Bool, true, false, List, length, Contains, refl, subst, ap, ◌∙◌, inl, inr, arith}
+use Rattle.std.proofs.Common.{◌≡◌, ◌≢◌, ℤ, ◌<◌, ◌==◌, ◌||◌, not, Bool, true, false, List, length, refl, subst, inl, inr}
 use Rattle.std.proofs.lemmas.Bool.{cases_Bool, and_parts, and_from, eq-eqb, eqb-true}
 use Rattle.std.proofs.lemmas.Bool.Decides.{Decides-int_eq}
 use Rattle.gh_base.specs.declared.edges.DirEdge.{DirEdge}
 use Rattle.base_graph.specs.Graphs.{same_side}
 use Rattle.turn_graph.specs.declared.turn.Turn.{Turn}
-use Rattle.turn_graph.specs.Restrictions.{Streets, end_of, way_of, AreOpposite, GoesInto, BansInto, IsBanned}
+use Rattle.turn_graph.specs.Restrictions.{Streets, end_of, way_of, AreOpposite, BansInto, IsBanned}
 use Rattle.turn_graph.specs.Tables.{Table, IsTableOf, row_at, are_opposite, bans_into, bans, is_banned}
 use Rattle.turn_graph.proofs.Around.{some_passes, passes_some}
 

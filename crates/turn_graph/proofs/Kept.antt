@@ -1,13 +1,12 @@
 -- The rows of a table have the restrictions that count.
 use Rattle.std.specs.Ordering.{int_eq}
-use Rattle.std.proofs.Common.{◌≡◌, ◌↔◌, ℕ, ℤ, zero, suc, ◌<◌, ◌&&◌, Bool, true, false, Option, Some, None, List, [], ◌∷◌, filter, length, slice_get, slice_index_or, Contains, refl, sym, ap, ◌∙◌, subst, inl, inr, arith}
+use Rattle.std.proofs.Common.{◌≡◌, ◌↔◌, ℕ, ℤ, suc, ◌<◌, Bool, true, Option, Some, None, List, [], ◌∷◌, filter, length, slice_get, Contains, refl, sym, ap, ◌∙◌, subst, inl, inr, arith}
 use Rattle.std.proofs.lemmas.Bool.{cases_Bool, and_parts, and_from}
 use Rattle.std.proofs.lemmas.Bool.Decides.{Decides-int_eq}
 use Rattle.base_graph.specs.Graphs.{IsGraph, around_of}
 use Rattle.turn_graph.specs.declared.turn.Turn.{Turn}
 use Rattle.turn_graph.specs.Restrictions.{Streets, CountsAt}
 use Rattle.turn_graph.specs.Counting.{turns_in, standing_at, has_way, counts_by}
-use Rattle.turn_graph.specs.Tables.{Table, IsTableOf}
 use Rattle.turn_graph.specs.Leading.{first_or_later, from_filter}
 use Rattle.turn_graph.proofs.Around.{starts_by, ends_by, has_by_start, has_by_end}
 

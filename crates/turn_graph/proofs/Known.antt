@@ -1,5 +1,5 @@
 -- What is known of the hops that are left, as they are given.
-use Rattle.std.proofs.Common.{◌≡◌, ◌≢◌, ℕ, ◌<◌, ◌*◌, ◌/◌, ◌==◌, nat_lt, Bool, true, false, Option, Some, None, IfSome, IfNone, List, [], ◌∷◌, filter, length, All, Contains, refl, sym, subst, ap, ◌∙◌, inl, inr, arith}
+use Rattle.std.proofs.Common.{◌≡◌, ◌≢◌, ℕ, ◌<◌, ◌*◌, ◌/◌, ◌==◌, nat_lt, Bool, false, Option, Some, None, IfSome, IfNone, List, [], ◌∷◌, filter, length, All, Contains, refl, sym, ap, ◌∙◌, inl, inr, arith}
 use Rattle.std.proofs.lemmas.Bool.{cases_Bool}
 use Rattle.std.proofs.lemmas.Bool.Decides.{nat_tests}
 use Rattle.std.proofs.lemmas.List.Elements.{All-nil, All-head, All-same, All-rest, All-weaker, All-contains_itself}

@@ -1,8 +1,7 @@
 -- States and their numbers.
-use Rattle.std.proofs.Common.{◌≡◌, ℕ, ◌+◌, ◌*◌, ◌/◌, ◌%◌, ◌<◌, ◌≤◌, ◌==◌, cond, Bool, true, false, refl, sym, ap, ◌∙◌, inl, inr, arith}
+use Rattle.std.proofs.Common.{◌≡◌, ℕ, ◌+◌, ◌*◌, ◌/◌, ◌%◌, ◌<◌, ◌==◌, cond, Bool, refl, sym, ap, ◌∙◌, inl, inr, arith}
 use Rattle.std.proofs.lemmas.Bool.{cases_Bool, lt-ltb, le-ltb, eq-eqb, ne_eqb}
 use Rattle.gh_base.specs.declared.edges.DirEdge.{DirEdge}
-use Rattle.turn_graph.specs.declared.state.State.{State}
 use Rattle.turn_graph.specs.declared.state.State.TheVariants.{Start, Passed, Target}
 use Rattle.turn_graph.specs.States.{number_of, edge_by, state_by}
 use Rattle.turn_graph.specs.Leading.{number_below}

@@ -1,19 +1,23 @@
 -- The walks by states from the start to the target are the turn walks.
-use Rattle.std.proofs.Common.{◌≡◌, ◌≢◌, ℕ, zero, suc, ◌+◌, ◌*◌, ◌<◌, ◌==◌, ◌⊎◌, not, Bool, true, false, Option, List, [], ◌∷◌, ◌++◌, map, filter, length, IsSome, Contains, refl, sym, subst, ap, ◌∙◌, inl, inr, arith}
+use Rattle.std.proofs.Common.{◌≡◌, ◌≢◌, ◌↔◌, ℕ, ℤ, suc, ◌+◌, ◌*◌, ◌<◌, ◌==◌, ◌⊎◌, not, Bool, true, false, List, [], ◌∷◌, map, filter, length, IsSome, All, Contains, refl, sym, subst, ap, ◌∙◌, inl, inr, arith}
 use Rattle.std.proofs.lemmas.Bool.{cases_Bool, eqb-true, eq-eqb}
-use Rattle.std.proofs.lemmas.List.Elements.{Contains-append_cases, Contains-append_left, Contains-append_right}
+use Rattle.std.proofs.lemmas.List.Elements.{All-nil, All-cons, Contains-append_cases, Contains-append_left, Contains-append_right}
 use Rattle.gh_base.specs.declared.edges.DirEdge.{DirEdge}
 use Rattle.gh_base.specs.declared.edges.Hop.{Hop}
 use Rattle.gh_base.specs.Networks.{Network}
+use Rattle.base_graph.specs.Graphs.{Graph, IsGraph}
 use Rattle.walk_rules.specs.Walks.{hops_from, IsWalk, weight_of}
 use Rattle.turn_graph.specs.declared.turn.Turn.{Turn}
 use Rattle.turn_graph.specs.declared.state.State.{State}
 use Rattle.turn_graph.specs.declared.state.State.TheVariants.{Start, Passed, Target}
 use Rattle.turn_graph.specs.Restrictions.{Streets, end_of, IsBanned}
 use Rattle.turn_graph.specs.TurnWalks.{GoesOnFreely, IsTurnWalk}
-use Rattle.turn_graph.specs.States.{number_of, onto_state, arrival, arrivals, Trip, is_last, hops_at, by_states, start_in, target_in, IsOver, onward, walk_by_states, AreOfTurnWalk}
+use Rattle.turn_graph.specs.States.{number_of, onto_state, arrival, arrivals, Trip, is_last, hops_at, state_by, trip_by, by_states, start_in, target_in, IsOver, onward, walk_by_states, AreOfTurnWalk}
 use Rattle.turn_graph.specs.Leading.{first_or_later, from_map, from_filter, number_below, to_of_arrival}
-use Rattle.turn_graph.proofs.Deciding.{not_true, true_not}
+use Rattle.turn_graph.specs.Tables.{Table, streets_for, IsTableOf}
+use Rattle.turn_graph.proofs.Around.{end_below}
+use Rattle.turn_graph.proofs.Known.{passed_below}
+use Rattle.turn_graph.proofs.Deciding.{not_true, true_not, banned_by, by_banned}
 use Rattle.turn_graph.proofs.Kept.{into_filter}
 use Rattle.turn_graph.proofs.Numbers.{state_passed, state_start, state_target}
 
@@ -164,3 +168,40 @@ module _ (trip : Trip) (over : IsOver trip.graph trip.base) where
     is_walk_by_states hops differ w =
         subst (λ (xs : List Hop). IsWalk all (2 * edges) xs goal) (sym (w.hops_are ∙ ap (λ (n : ℕ). walk_by_states n w.walk) (ap (λ g. length g.edges) same)))
         (turn_walk_on w.walk differ w.is_turn_walk)
+
+-- what leaves a state is over an edge of the graph
+module _ (trip : Trip) (over : IsOver trip.graph trip.base) where
+  abbrev count : ℕ
+  count = length trip.graph.edges
+
+  hop_over : (state : State) (n : ℕ) (hop : Hop) → state ≡ state_by count n → Contains (hops_at trip state) hop → hop.by.edge.0 < count
+  hop_over Start n hop is c =
+      let x = from_map onto_state (hops_from trip.base trip.from) hop c in
+      subst (λ (h : Hop). h.by.edge.0 < count) x.2 (over.hops trip.from x.0 x.1).is_edge
+  hop_over Target n hop is c = absurd (omega (arith, c.1))
+  hop_over (Passed by) n hop is c =
+      let p : Hop → Bool = λ hop. not (trip.is_banned by hop.by) in
+      let all = hops_from trip.base (end_of trip.graph by) in
+      elim (Contains-append_cases (map onto_state (filter p all)) (arrivals count by (is_last trip (Passed by))) hop c) [
+        | inl h ↦
+            let x = from_map onto_state (filter p all) hop h in
+            subst (λ (h : Hop). h.by.edge.0 < count) x.2 (over.hops (end_of trip.graph by) x.0 (from_filter p all x.0 x.1).0).is_edge
+        | inr h ↦ subst (λ (h : Hop). h.by.edge.0 < count) (to_of_arrival count by (is_last trip (Passed by)) hop h) (passed_below count n (Passed by) by is refl)
+      ]
+
+  pub hops_over : (hops : List Hop) (n k : ℕ) → IsWalk (by_states trip) n hops k → All (λ hop. hop.by.edge.0 < count) hops
+  hops_over [] n k w = All-nil (λ (hop : Hop). hop.by.edge.0 < count)
+  hops_over (hop ∷ hops) n k w = All-cons (λ (hop : Hop). hop.by.edge.0 < count) hop hops (hop_over (state_by count n) n hop refl w.0) (hops_over hops hop.to.0 k w.2)
+
+-- by a table, the walks by states between two towers are the turn walks
+pub walks_are : (base : Network) (graph : Graph) (table : Table) (from to : ℕ) (ids : List ℤ) (all : List Turn) → IsGraph graph → IsOver graph base → from ≢ to →
+    IsTableOf (streets_for graph ids table) all table → (hops : List Hop) →
+    IsWalk (by_states (trip_by base graph table from to)) (start_in graph) hops (target_in graph) ↔ AreOfTurnWalk base (streets_for graph ids table) all from to hops
+walks_are base graph table from to ids all facts over differ is hops =
+    let streets = streets_for graph ids table in
+    let trip = trip_by base graph table from to in
+    let banned = λ (a : DirEdge) (b : DirEdge) (l : a.edge.0 < length graph.edges). banned_by streets all table is a b (end_below graph a facts l) in
+    let bans = λ (a : DirEdge) (b : DirEdge) (l : a.edge.0 < length graph.edges). by_banned streets all table is a b (end_below graph a facts l) in (
+      are_of_turn_walk trip over streets all refl banned bans hops,
+      is_walk_by_states trip over streets all refl banned bans hops differ,
+    )

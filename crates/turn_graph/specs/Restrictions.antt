@@ -1,5 +1,5 @@
 -- Turn restrictions (OSM wiki, "Relation:restriction"): who comes by one way over a node must not go on by another ("no_"), or by no other ("only_").
-use Rattle.std.specs.Prelude.{◌≡◌, ◌≢◌, ℕ, ℤ, ◌<◌, pos, Bool, true, false, Option, Some, List, length, slice_get, slice_index_or, Contains}
+use Rattle.std.specs.Prelude.{◌≡◌, ◌≢◌, ℕ, ℤ, ◌<◌, pos, Bool, true, false, Some, List, length, slice_get, slice_index_or, Contains}
 use Rattle.gh_base.specs.declared.edges.DirEdge.{DirEdge}
 use Rattle.base_graph.specs.Graphs.{Graph, edge_at, head, tail}
 use Rattle.turn_graph.specs.declared.turn.Turn.{Turn}

@@ -1,14 +1,15 @@
 -- Roads by what was passed (edge-based graphs, as of OSRM and GraphHopper): a state is a directed edge that was passed, the start, or the target.
-use Rattle.std.specs.Prelude.{◌≡◌, ◌≢◌, ℕ, ◌+◌, ◌*◌, ◌/◌, ◌%◌, ◌<◌, ◌==◌, nat_lt, cond, Bool, true, false, not, if◌then◌else◌, Option, Some, List, [], ◌∷◌, ◌++◌, map, filter, length, All, Contains}
+use Rattle.std.specs.Prelude.{◌≡◌, ◌≢◌, ℕ, ◌+◌, ◌*◌, ◌/◌, ◌%◌, ◌<◌, ◌==◌, nat_lt, cond, Bool, true, false, not, if◌then◌else◌, Some, List, [], ◌∷◌, ◌++◌, map, filter, length, All, Contains}
 use Rattle.gh_base.specs.declared.edges.DirEdge.{DirEdge}
 use Rattle.gh_base.specs.declared.edges.Hop.{Hop}
 use Rattle.gh_base.specs.Networks.{Network}
-use Rattle.walk_rules.specs.Walks.{hops_from, IsWalk}
+use Rattle.walk_rules.specs.Walks.{hops_from}
 use Rattle.base_graph.specs.Graphs.{Graph}
 use Rattle.turn_graph.specs.declared.turn.Turn.{Turn}
 use Rattle.turn_graph.specs.declared.state.State.{State}
 use Rattle.turn_graph.specs.declared.state.State.TheVariants.{Start, Passed, Target}
 use Rattle.turn_graph.specs.Restrictions.{Streets, end_of}
+use Rattle.turn_graph.specs.Tables.{Table, is_banned}
 use Rattle.turn_graph.specs.TurnWalks.{IsTurnWalk}
 
 -- the number of having passed a directed edge: twice that of its edge, and one more in reverse
@@ -41,6 +42,10 @@ pub record Trip : Type 0 where
   pub is_banned : DirEdge → DirEdge → Bool
   pub from : ℕ
   pub to : ℕ
+
+-- the same, by a table
+abbrev pub trip_by : Network → Graph → Table → ℕ → ℕ → Trip
+trip_by base graph table from to = record { base = base; graph = graph; is_banned = is_banned graph table; from = from; to = to }
 
 -- of so many hops of the base, and an arrival or none, those that leave a state: no turn is banned
 abbrev pub left_at : (DirEdge → DirEdge → Bool) → ℕ → State → Bool → List Hop → List Hop

@@ -21,6 +21,10 @@ pub record IsFor (graph : Graph) (table : Table) : Type 0 where
   pub ways : length table.ways ≡ length graph.edges
   pub rows : length table.rows ≡ length graph.places
 
+-- the roads that a table is for: a graph whose towers have these ids
+abbrev pub streets_for : Graph → List ℤ → Table → Streets
+streets_for graph ids table = record { graph = graph; ids = ids; ways = table.ways }
+
 -- a table of restrictions over roads: at each tower those that count there, and no other
 pub record IsTableOf (streets : Streets) (turns : List Turn) (table : Table) : Type 0 where
   pub ways : table.ways ≡ streets.ways

@@ -9,12 +9,14 @@
 
 mod bound;
 mod counting;
+mod laws;
 mod state;
 mod table;
 mod turn;
 mod view;
 
 pub use bound::TurnPotential;
+pub use laws::walks_by_states_weigh_the_same;
 pub use table::TurnTable;
 pub use turn::{Turn, TurnList};
 pub use view::TurnView;

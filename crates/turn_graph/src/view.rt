@@ -1,11 +1,10 @@
 //! A view of roads by states.
 ghost use Rattle.std.specs.Prelude.{◌≡◌, ◌≢◌, ◌↔◌, ◌+◌, ◌<◌, ℕ, ℤ, List, All, [], ◌∷◌, not, filter, length, IfSome, IfNone};
 ghost use Rattle.gh_base.specs.declared.edges.Hop.{Hop};
-ghost use Rattle.walk_rules.specs.Walks.{IsWalk, weight_of};
+ghost use Rattle.walk_rules.specs.Walks.{IsWalk};
 ghost use Rattle.turn_graph.specs.declared.turn.Turn.{Turn};
-ghost use Rattle.turn_graph.specs.Restrictions.{Streets};
-ghost use Rattle.turn_graph.specs.Tables.{IsFor, IsTableOf, is_banned};
-ghost use Rattle.turn_graph.specs.States.{IsOver, AreKnown, by_states, start_in, target_in, walk_by_states, AreOfTurnWalk};
+ghost use Rattle.turn_graph.specs.Tables.{IsFor, streets_for, IsTableOf, is_banned};
+ghost use Rattle.turn_graph.specs.States.{IsOver, AreKnown, trip_by, by_states, start_in, target_in, AreOfTurnWalk};
 
 use crate::state::{State, arrival, end_of, onto_state, state_by};
 use crate::table::TurnTable;
@@ -51,12 +50,12 @@ impl<'a, V: RoadView> TurnView<'a, V> {
         requires over { IsOver graph.now.lists (V.network base) }
         requires suits { IsFor graph.now.lists turns.now }
         requires from { from.0 < length graph.now.lists.places }
-        ensures network { ⟦<TurnView<'a, V> as RoadView>⟧.network result ≡ by_states (record { base = V.network base; graph = graph.now.lists; is_banned = is_banned graph.now.lists turns.now; from = from.0; to = to.0 }) }
+        ensures network { ⟦<TurnView<'a, V> as RoadView>⟧.network result ≡ by_states (trip_by (V.network base) graph.now.lists turns.now from.0 to.0) }
         // Between two towers, its walks from the start to the target are the turn walks, by states.
         ensures walks { (ids : List ℤ) (all : List Turn) (hops : List Hop) → from.0 ≢ to.0 →
-            IsTableOf (record { graph = graph.now.lists; ids = ids; ways = turns.now.ways }) all turns.now →
+            IsTableOf (streets_for graph.now.lists ids turns.now) all turns.now →
             IsWalk (⟦<TurnView<'a, V> as RoadView>⟧.network result) (start_in graph.now.lists) hops (target_in graph.now.lists)
-            ↔ AreOfTurnWalk (V.network base) (record { graph = graph.now.lists; ids = ids; ways = turns.now.ways }) all from.0 to.0 hops }
+            ↔ AreOfTurnWalk (V.network base) (streets_for graph.now.lists ids turns.now) all from.0 to.0 hops }
         // It begins with the base's count, which each start at the target raises too.
         ensures starts { ⟦<TurnView<'a, V> as RoadView>⟧.starts result ≡ V.starts base }
         ensures left { ⟦<TurnView<'a, V> as RoadView>⟧.left result ≡ [] }
@@ -77,16 +76,16 @@ impl<'a, V: RoadView> TurnView<'a, V> {
 impl<'a, V: RoadView> RoadView for TurnView<'a, V> {
     ghost use Rattle.std.specs.Prelude.{◌+◌, length};
     ghost use Rattle.turn_graph.specs.Tables.{is_banned};
-    ghost use Rattle.turn_graph.specs.States.{by_states, left_at};
+    ghost use Rattle.turn_graph.specs.States.{trip_by, by_states, left_at};
     ghost use Rattle.turn_graph.specs.Leading.{states_lead};
 
-    ghost network = { λ view. by_states (record { base = V.network view.base; graph = view.graph.now.lists; is_banned = is_banned view.graph.now.lists view.turns.now; from = view.from.0; to = view.to.0 }) };
+    ghost network = { λ view. by_states (trip_by (V.network view.base) view.graph.now.lists view.turns.now view.from.0 view.to.0) };
 
     ghost starts = { λ view. V.starts view.base + view.own_starts };
 
     ghost left = { λ view. left_at (is_banned view.graph.now.lists view.turns.now) (length view.graph.now.lists.edges) view.state view.arrives (V.left view.base) };
 
-    ghost leads = { λ view. states_lead (record { base = V.network view.base; graph = view.graph.now.lists; is_banned = is_banned view.graph.now.lists view.turns.now; from = view.from.0; to = view.to.0 }) view.over };
+    ghost leads = { λ view. states_lead (trip_by (V.network view.base) view.graph.now.lists view.turns.now view.from.0 view.to.0) view.over };
 
     fn node_count(&self) -> u32 {
         2 * self.graph.edge_count() + 2

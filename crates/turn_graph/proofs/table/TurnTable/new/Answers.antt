@@ -1,6 +1,6 @@
 use Rattle.std.specs.Ordering.{int_eq}
 use Rattle.std.specs.HashMap.{get}
-use Rattle.std.proofs.Common.{◌≡◌, ◌↔◌, ℕ, ℤ, ◌<◌, List, filter, Contains, refl, sym, subst, ap, ◌∙◌, arith}
+use Rattle.std.proofs.Common.{◌↔◌, ℤ, ◌<◌, List, filter, Contains, refl, sym, subst, ap, ◌∙◌, arith}
 use Rattle.turn_graph.specs.declared.turn.Turn.{Turn}
 use Rattle.turn_graph.specs.Restrictions.{Streets, CountsAt}
 use Rattle.turn_graph.proofs.Kept.{row_is}
