@@ -5,7 +5,9 @@
 //! edges that were passed, with `alt_search`. What a turn walk is stands in `specs/` of `turn_graph`.
 #![tactic(auto)]
 
+mod laws;
 mod searching;
 mod unstated;
 
+pub use laws::weighed_roads_are_over;
 pub use searching::search_turns;
