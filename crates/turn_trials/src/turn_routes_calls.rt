@@ -15,7 +15,6 @@ const ROW: &str =
 
 /// What is found from one tower to another, where who comes from way 10 must not, or may only, go on
 /// into way 11.
-#[tactic(auto, using(turn_routes::specs::Weighed::roads_are_over))]
 fn found(alloc: Global, only: bool, from: u32, to: u32) -> Result<Option<Found>, Fail> {
     let mut source = SureSource::new(ROW.as_bytes(), 4096);
     let map = read_plain(alloc, &mut source)?;
