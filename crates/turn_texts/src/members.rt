@@ -1,8 +1,8 @@
 //! Members of a relation, as they are written.
-ghost use Rattle.std.specs.Prelude.{◌≡◌, ◌==◌, length};
+ghost use Rattle.std.specs.Prelude.{◌≡◌};
 ghost use Rattle.gh_base.specs.Parts.{parts_of};
 ghost use Rattle.gh_base.specs.Readings.{Gives};
-ghost use Rattle.turn_texts.specs.PlainRelations.{kind_at, id_and_role, role_at, member_at, members_of, members_at};
+ghost use Rattle.turn_texts.specs.PlainRelations.{id_and_role, role_at, member_at, members_of, members_at};
 
 use crate::escapes::unescape;
 use crate::fields::after_letter;

@@ -1,5 +1,5 @@
 //! Relations, and which of them are turn restrictions.
-ghost use Rattle.std.specs.Prelude.{◌≡◌};
+ghost use Rattle.std.specs.Prelude.{◌≡◌, find, count_by};
 ghost use Rattle.std.specs.Option.{option_map};
 ghost use Rattle.tag_rules.specs.Tags.{tag_of};
 ghost use Rattle.turn_texts.specs.Restricting.{is_of_kind, has_role, id_of_role, only_by, turn_of};
@@ -69,14 +69,30 @@ fn has_role(role: &str, member: &Member) -> bool
     member.role.as_str() == role
 }
 
+/// The first member of a role.
+fn first_of_role<'a>(role: &str, members: &'a [Member]) -> Option<&'a Member>
+    ensures { option_map (λ m. m.now) result ≡ find (has_role role.now) members.now }
+{
+    members.iter().find(|member| has_role(role, member))
+}
+
+/// How many members have a role.
+fn count_of_role(role: &str, members: &[Member]) -> usize
+    ensures { result ≡ count_by (has_role role.now) members.now }
+{
+    members.iter().filter(|member| has_role(role, member)).count()
+}
+
 /// The id of the one member of a role, where it is of this kind.
 fn id_of_role(role: &str, kind: MemberKind, members: &[Member]) -> Option<i64>
     ensures { result ≡ id_of_role role.now kind members.now }
 {
-    if members.iter().filter(|member| has_role(role, member)).count() != 1 {
+    if count_of_role(role, members) != 1 {
         return None;
     }
-    let member = members.iter().find(|member| has_role(role, member))?;
+    let Some(member) = first_of_role(role, members) else {
+        return None;
+    };
     if is_of_kind(kind, member) {
         Some(member.id)
     } else {
