@@ -1,11 +1,10 @@
 -- Relations in a plain map (after OPL, "OPL File Format Manual"): `r` and an id, and then fields as those of a way, and M: members parted by commas, each
 -- n, w or r, an id, @ and a role with the escapes of tags.
-use Rattle.std.specs.Prelude.{ℕ, ℤ, Bool, false, if◌then◌else◌, List, [], ◌∷◌, length, Option, Some, None, Result, Ok, Err, ◌==◌, is_some, unwrap_or, filter_map}
+use Rattle.std.specs.Prelude.{ℕ, Bool, false, if◌then◌else◌, List, [], ◌∷◌, length, Option, Some, None, Result, Ok, Err, ◌==◌, is_some, unwrap_or, filter_map}
 use Rattle.std.specs.List.{list_any, join_with_byte}
 use Rattle.std.specs.Str.Lossy.{utf8_valid_len}
 use Rattle.gh_base.specs.declared.kinds.PlainKind.{PlainKind}
 use Rattle.gh_base.specs.declared.kinds.PlainKind.TheVariants.{Number, Tag, Field, Line, Utf8}
-use Rattle.gh_base.specs.declared.map.OsmTag.{OsmTag}
 use Rattle.gh_base.specs.Decimals.{id_of}
 use Rattle.gh_base.specs.Parts.{parts_of}
 use Rattle.plain_map.specs.Escapes.{◌>>=◌, text_at}
@@ -22,17 +21,22 @@ use Rattle.turn_texts.specs.Restricting.{turn_of}
 unfoldable pub role_at : List ℕ → Result (List ℕ) PlainKind
 role_at bytes = if list_any (λ b. b == 61) bytes then Err Tag else text_at bytes
 
--- an id up to the first @, and a role behind it
-abbrev pub role_behind : MemberKind → List (List ℕ) → Result Member PlainKind
-role_behind kind [] = Err Field
-role_behind kind (digits ∷ []) = Err Field
-role_behind kind (digits ∷ part ∷ parts) = do
-  id ← or_kind Number (id_of digits)
-  role ← role_at (join_with_byte 64 (part ∷ parts))
+-- the two sides of the first @
+abbrev pub sides_of : List (List ℕ) → Option (List ℕ × List ℕ)
+sides_of [] = None
+sides_of (first ∷ []) = None
+sides_of (first ∷ part ∷ parts) = Some (first, join_with_byte 64 (part ∷ parts))
+
+-- an id before it, and a role behind it
+abbrev pub member_with : MemberKind → Option (List ℕ × List ℕ) → Result Member PlainKind
+member_with kind None = Err Field
+member_with kind (Some sides) = do
+  id ← or_kind Number (id_of sides.0)
+  role ← role_at sides.1
   Ok (record { kind = kind; id = id; role = role })
 
 unfoldable pub id_and_role : MemberKind → List ℕ → Result Member PlainKind
-id_and_role kind bytes = role_behind kind (parts_of 64 bytes)
+id_and_role kind bytes = member_with kind (sides_of (parts_of 64 bytes))
 
 -- by its letter: n, w or r
 abbrev pub member_by : Option (List ℕ) → Option (List ℕ) → Option (List ℕ) → Result Member PlainKind

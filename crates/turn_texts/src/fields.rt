@@ -61,4 +61,3 @@ pub(crate) fn is_passed(word: &str) -> bool
         [b'v' | b'd' | b'c' | b't' | b'i' | b'u', ..]
     )
 }
-

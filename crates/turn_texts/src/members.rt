@@ -1,8 +1,9 @@
 //! Members of a relation, as they are written.
-ghost use Rattle.std.specs.Prelude.{◌≡◌};
+ghost use Rattle.std.specs.Prelude.{◌≡◌, ℕ, List};
+ghost use Rattle.std.specs.Option.{option_map};
 ghost use Rattle.gh_base.specs.Parts.{parts_of};
 ghost use Rattle.gh_base.specs.Readings.{Gives};
-ghost use Rattle.turn_texts.specs.PlainRelations.{id_and_role, role_at, member_at, members_of, members_at};
+ghost use Rattle.turn_texts.specs.PlainRelations.{sides_of, id_and_role, role_at, member_at, members_of, members_at};
 
 use crate::escapes::unescape;
 use crate::fields::after_letter;
@@ -22,13 +23,24 @@ fn role(alloc: Global, text: &str) -> Result<Text, WordFault>
     unescape(alloc, text)
 }
 
+/// The two sides of the first `@`.
+#[tactic(auto, using(crate::proofs::Sides::sides_more))]
+fn sides(text: &str) -> Option<(&str, &str)>
+    ensures { option_map (λ c. (c.0.now, c.1.now)) result ≡ sides_of (parts_of 64 text.now) }
+{
+    let (first, after) = first_part(text, '@');
+    match after {
+        None => None,
+        Some(after) => Some((first, after)),
+    }
+}
+
 /// An id, `@` and a role.
 #[tactic(auto, unfolding(crate::specs::PlainRelations::id_and_role))]
 fn with_role(alloc: Global, kind: MemberKind, text: &str) -> Result<Member, WordFault>
     ensures { Gives result (id_and_role kind text.now) }
 {
-    let (digits, after) = first_part(text, '@');
-    let Some(after) = after else {
+    let Some((digits, after)) = sides(text) else {
         return Err(WordFault::Is(PlainKind::Field));
     };
     let Some(id) = read_id(digits.as_bytes()) else {

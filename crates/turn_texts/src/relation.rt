@@ -80,7 +80,10 @@ fn first_of_role<'a>(role: &str, members: &'a [Member]) -> Option<&'a Member>
 fn count_of_role(role: &str, members: &[Member]) -> usize
     ensures { result ≡ count_by (has_role role.now) members.now }
 {
-    members.iter().filter(|member| has_role(role, member)).count()
+    members
+        .iter()
+        .filter(|member| has_role(role, member))
+        .count()
 }
 
 /// The id of the one member of a role, where it is of this kind.

@@ -5,28 +5,26 @@ use map_import::{import, ways_of_edges};
 use plain_map::read_plain;
 use std::alloc::Global;
 use std::test::Fail;
-use turn_graph::{Turn, TurnList, TurnTable};
+use turn_graph::TurnTable;
 use turn_routes::search_turns;
+use turn_texts::read_plain_turns;
 use weighting::{Opening, Side, WeightView, Weighting, car_profile};
 
-/// Three towers in a row, 66717 ms apart by car.
-const ROW: &str =
-    "n1 y0 x0\nn2 y0 x0.01\nn3 y0 x0.02\nw10 Thighway=secondary Nn1,n2\nw11 Thighway=secondary Nn2,n3\n";
+/// Three towers in a row, 66717 ms apart by car, where who comes from way 10 must not go on into way 11.
+const NO_STRAIGHT_ON: &str =
+    "n1 y0 x0\nn2 y0 x0.01\nn3 y0 x0.02\nw10 Thighway=secondary Nn1,n2\nw11 Thighway=secondary Nn2,n3\nr1 Ttype=restriction,restriction=no_straight_on Mw10@from,n2@via,w11@to\n";
 
-/// What is found from one tower to another, where who comes from way 10 must not, or may only, go on
-/// into way 11.
-fn found(alloc: Global, only: bool, from: u32, to: u32) -> Result<Option<Found>, Fail> {
-    let mut source = SureSource::new(ROW.as_bytes(), 4096);
+/// The same, where who comes from way 10 may only go on into way 11.
+const ONLY_STRAIGHT_ON: &str =
+    "n1 y0 x0\nn2 y0 x0.01\nn3 y0 x0.02\nw10 Thighway=secondary Nn1,n2\nw11 Thighway=secondary Nn2,n3\nr1 Ttype=restriction,restriction=only_straight_on Mw10@from,n2@via,w11@to\n";
+
+/// What is found from one tower to another.
+fn found(alloc: Global, text: &str, from: u32, to: u32) -> Result<Option<Found>, Fail> {
+    let mut source = SureSource::new(text.as_bytes(), 4096);
     let map = read_plain(alloc, &mut source)?;
     let roads = import(alloc, &map)?;
     let ways = ways_of_edges(alloc, &map)?;
-    let mut turns = TurnList::new(alloc);
-    turns.push(Turn {
-        from: 10,
-        via: 2,
-        to: 11,
-        only,
-    })?;
+    let turns = read_plain_turns(alloc, text.as_bytes())?;
     let table = TurnTable::new(alloc, &turns, &ways, &roads)?;
     let graph = &roads.graph;
     if from >= graph.node_count() {
@@ -76,21 +74,21 @@ const fn way_over(edge: u32, reverse: bool) -> DirEdge {
 
 #[test]
 fn a_banned_turn_leaves_no_walk(rt: HostRuntime) -> Result<(), Fail> {
-    let found = found(rt.alloc(), false, 0, 2)?;
+    let found = found(rt.alloc(), NO_STRAIGHT_ON, 0, 2)?;
     assert_eq!(rt; starts_for_none(&found), Some(3));
     Ok(())
 }
 
 #[test]
 fn a_turn_is_banned_in_one_direction(rt: HostRuntime) -> Result<(), Fail> {
-    let found = found(rt.alloc(), false, 2, 0)?;
+    let found = found(rt.alloc(), NO_STRAIGHT_ON, 2, 0)?;
     assert!(rt; two_hops(&found) == Some((133_434, way_over(1, true), way_over(0, true))));
     Ok(())
 }
 
 #[test]
 fn the_only_turn_is_taken(rt: HostRuntime) -> Result<(), Fail> {
-    let found = found(rt.alloc(), true, 0, 2)?;
+    let found = found(rt.alloc(), ONLY_STRAIGHT_ON, 0, 2)?;
     assert!(rt; two_hops(&found) == Some((133_434, way_over(0, false), way_over(1, false))));
     Ok(())
 }
@@ -98,12 +96,14 @@ fn the_only_turn_is_taken(rt: HostRuntime) -> Result<(), Fail> {
 #[test]
 fn from_a_tower_to_itself_nothing_is_started(rt: HostRuntime) -> Result<(), Fail> {
     let alloc = rt.alloc();
-    match found(alloc, false, 1, 1)? {
-        Some(Found::Walk {
-            hops,
-            weight,
-            settled,
-        }) => {
+    match found(alloc, NO_STRAIGHT_ON, 1, 1)? {
+        Some(
+            Found::Walk {
+                hops,
+                weight,
+                settled,
+            },
+        ) => {
             assert!(rt; hops.is_empty());
             assert_eq!(rt; (weight, settled), (0, 0));
         }
