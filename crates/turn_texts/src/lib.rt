@@ -15,4 +15,4 @@ mod tags;
 mod words;
 
 pub use lines::read_plain_turns;
-pub use relation::{Member, MemberKind, MemberList, Relation};
+pub use relation::{Member, MemberKind, MemberList, Relation, turn_of};

@@ -104,7 +104,7 @@ fn id_of_role(role: &str, kind: MemberKind, members: &[Member]) -> Option<i64>
 }
 
 /// The restriction that a relation is, or None.
-pub(crate) fn turn_of(relation: &Relation) -> Option<Turn>
+pub fn turn_of(relation: &Relation) -> Option<Turn>
     ensures { result ≡ turn_of relation.now }
 {
     if tag_value(&relation.tags, "type") != Some("restriction") {
