@@ -1,0 +1,2 @@
+pub mod Unstated
+pub mod Weighed
