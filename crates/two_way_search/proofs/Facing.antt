@@ -13,6 +13,10 @@ use Rattle.two_way_search.specs.Sides.{reduced, reduced_by, FallsTwice, AreSmall
 pub each_back : (network back : Network) → HasEachTurned network back → HasEachBack network back
 each_back network back h node hop c s = let o = h node hop c s in (o.0, o.1, o.2, o.4)
 
+pub opposed : {out back : Network} {ahead behind : ℕ → Option ℕ} {start target : ℕ} → IsTurned out back → IsFeasible out ahead target → IsFeasible back behind start → AreOpposed out back ahead behind start target
+opposed turned left passed = record { turned = turned; left = left; passed = passed }
+
+-- the same from the other end
 pub facing : {out back : Network} {ahead behind : ℕ → Option ℕ} {start target : ℕ} → AreOpposed out back ahead behind start target → AreOpposed back out behind ahead target start
 facing o = record {
   turned = record { nodes = sym o.turned.nodes; there = o.turned.here; here = o.turned.there };

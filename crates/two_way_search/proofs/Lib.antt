@@ -8,5 +8,7 @@ pub mod Facing
 pub mod Frontier
 pub mod Meet
 pub mod Going
+pub mod Keyed
+pub mod Ends
 pub mod Turn
 pub mod Onward

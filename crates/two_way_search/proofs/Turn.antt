@@ -125,8 +125,8 @@ begin_side network ahead behind end n b side l inside b_is small reached next se
     }
 
 -- both sides before the first turn
-pub begin_both : (out back : Network) (ahead behind : ℕ → Option ℕ) (start target n b c : ℕ) (forward backward : Side) → back.nodes ≡ out.nodes → n ≡ out.nodes → start < out.nodes → target < out.nodes → start ≢ target → IsSide out ahead behind start 0 forward → IsSide back behind ahead target 0 backward → forward.reached ≡ slice_set (replicate n None) start (Some (record { weight = 0; depth = 0; last = None })) → backward.reached ≡ slice_set (replicate n None) target (Some (record { weight = 0; depth = 0; last = None })) → forward.settled ≡ 0 → backward.settled ≡ 0 → AreUnderway out back ahead behind start target forward backward None
-begin_both out back ahead behind start target n b c forward backward same l inside inside' apart first second reached reached' settled settled' = record {
+pub begin_both : (out back : Network) (ahead behind : ℕ → Option ℕ) (start target n : ℕ) (forward backward : Side) → start ≢ target → IsSide out ahead behind start 0 forward → IsSide back behind ahead target 0 backward → forward.reached ≡ slice_set (replicate n None) start (Some (record { weight = 0; depth = 0; last = None })) → backward.reached ≡ slice_set (replicate n None) target (Some (record { weight = 0; depth = 0; last = None })) → forward.settled ≡ 0 → backward.settled ≡ 0 → AreUnderway out back ahead behind start target forward backward None
+begin_both out back ahead behind start target n forward backward apart first second reached reached' settled settled' = record {
   near = 0;
   far = 0;
   first = first;
