@@ -67,20 +67,23 @@ module _ {out back : Network} {ahead behind : ℕ → Option ℕ} {start target 
   -- a settled node has a key
   pub settled_key : (node : ℕ) (reach : Reach) (b : ℕ) → IsSettled side.reached s.open_keys node reach → reduced_by ahead behind node ≡ Some b → (key : ℕ) × IsKey out ahead behind start node key × (over key first ≡ 2 * reach.weight + b)
   settled_key node reach b settled b_is =
-      let k = known node reach b settled.reach_is b_is in
-      (2 * reach.weight + k.left - (first + k.passed), record {
-        distance = reach.weight;
-        distance_is = record { hops = k.hops; is_least = record { walk = k.walk; least = λ others walk. omega (arith, k.weighs, settled_least s.underway s.ordered (reduced_falls o) node reach settled others walk) }; weight_is = k.weighs };
-        left = k.left;
-        left_is = k.left_is;
-        passed = k.passed;
-        passed_is = k.passed_is;
-        left_first = first;
-        left_first_is = first_is;
-        passed_first = 0;
-        passed_first_is = o.passed.at_target;
-        key_is = omega (arith, k.first_below, k.passed_below);
-      }, omega (arith, k.first_below, k.passed_below, k.b_is, k.small))
+      let k = known node reach b settled.reach_is b_is in (
+        2 * reach.weight + k.left - (first + k.passed),
+        record {
+          distance = reach.weight;
+          distance_is = record { hops = k.hops; is_least = record { walk = k.walk; least = λ others walk. omega (arith, k.weighs, settled_least s.underway s.ordered (reduced_falls o) node reach settled others walk) }; weight_is = k.weighs };
+          left = k.left;
+          left_is = k.left_is;
+          passed = k.passed;
+          passed_is = k.passed_is;
+          left_first = first;
+          left_first_is = first_is;
+          passed_first = 0;
+          passed_first_is = o.passed.at_target;
+          key_is = omega (arith, k.first_below, k.passed_below);
+        },
+        omega (arith, k.first_below, k.passed_below, k.b_is, k.small),
+      )
 
   -- two keys of a node are one
   pub one_key : (node key other : ℕ) → IsKey out ahead behind start node key → IsKey out ahead behind start node other → key ≡ other

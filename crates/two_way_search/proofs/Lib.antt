@@ -12,3 +12,4 @@ pub mod Keyed
 pub mod Ends
 pub mod Turn
 pub mod Onward
+pub mod Rising

@@ -8,7 +8,6 @@ use Rattle.alt_search.specs.declared.reach.Reach.{Reach}
 use Rattle.alt_search.specs.declared.reach.Step.{Step}
 use Rattle.gh_base.specs.Networks.{Network}
 use Rattle.walk_rules.specs.Walks.{hops_from, cost}
-
 use Rattle.search_queue.specs.Keys.{key_at}
 use Rattle.alt_search.specs.Progress.{reach_at, IsSettled, IsRelaxed, Extends}
 use Rattle.two_way_search.specs.Sides.{FallsTwice, IsTree, IsOrdered, Improves, Passes, Relaxes}

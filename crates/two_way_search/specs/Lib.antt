@@ -4,3 +4,4 @@ pub mod Answers
 pub mod Sides
 pub mod Meetings
 pub mod Opposed
+pub mod Behind

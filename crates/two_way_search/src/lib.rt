@@ -6,10 +6,12 @@
 //! stands in `specs/Keys.antt`.
 #![tactic(auto)]
 
+mod behind;
 mod joining;
 mod meeting;
 mod searching;
 mod side;
 mod turns;
 
+pub use behind::Behind;
 pub use searching::{Both, search_both};

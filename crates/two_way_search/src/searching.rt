@@ -71,7 +71,7 @@ pub fn search_both<V: RoadView, W: RoadView, P: Potential, Q: Potential>(
         IfOk result (λ both. (forward_of both ≡ 0) × (backward_of both ≡ 0)) }
     ensures started { (IsSettledAtOnce (P.bound ahead.now) (Q.bound behind.now) start.0 target.0 → ⊥) →
         IfOk result (λ both. StartsOnBothSides (V.network out.old) (W.network back.old) (P.bound ahead.now) (Q.bound behind.now)
-            start.0 target.0 (forward_of both) (backward_of both)) }
+        start.0 target.0 (forward_of both) (backward_of both)) }
 {
     if start.0 == target.0 {
         return Ok(Both::Walk {

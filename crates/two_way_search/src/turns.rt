@@ -88,21 +88,13 @@ impl Sides {
             start.0 target.0 self.new.forward self.new.backward self.new.met }
     {
         if self.forward.settled == self.backward.settled {
-            self.met = self.forward.settle_next(
-                out,
-                ahead,
-                behind,
-                &self.backward.reached,
-                self.met,
-            );
+            self.met = self
+                .forward
+                .settle_next(out, ahead, behind, &self.backward.reached, self.met);
         } else {
-            self.met = self.backward.settle_next(
-                back,
-                behind,
-                ahead,
-                &self.forward.reached,
-                self.met,
-            );
+            self.met = self
+                .backward
+                .settle_next(back, behind, ahead, &self.forward.reached, self.met);
         }
     }
 }
