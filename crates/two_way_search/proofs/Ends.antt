@@ -1,5 +1,5 @@
 -- What a search from both ends has shown when it ends.
-use Rattle.std.proofs.Common.{◌≡◌, ℕ, ◌+◌, ◌-◌, ◌*◌, ◌^◌, ◌<◌, ◌≤◌, ◌⊎◌, Option, Some, None, IsSome, IfSome, IsSomeAnd, List, [], ◌∷◌, ◌++◌, refl, sym, subst, ap, ◌∙◌, inl, inr, arith}
+use Rattle.std.proofs.Common.{◌≡◌, ℕ, ◌+◌, ◌*◌, ◌^◌, ◌<◌, ◌≤◌, ◌⊎◌, Option, Some, None, List, [], ◌∷◌, ◌++◌, refl, sym, subst, ap, inl, inr, arith}
 use Rattle.gh_base.specs.declared.edges.Hop.{Hop}
 use Rattle.gh_base.specs.declared.edges.NodeId.{NodeId}
 use Rattle.gh_base.specs.Networks.{Network}
@@ -11,12 +11,12 @@ use Rattle.two_way_search.specs.declared.meeting.Meeting.{Meeting}
 use Rattle.two_way_search.specs.declared.side.Side.{Side}
 use Rattle.two_way_search.specs.Keys.{IsKey, AddUpTo, StartsOnBothSides}
 use Rattle.two_way_search.specs.Opposed.{AreOpposed}
-use Rattle.two_way_search.specs.Sides.{reduced, reduced_by, IsTree}
+use Rattle.two_way_search.specs.Sides.{reduced, reduced_by}
 use Rattle.two_way_search.specs.Meetings.{IsFound, MayGoOn, AreUnderway}
 use Rattle.two_way_search.proofs.Facing.{facing, turned_walk, passed_below}
-use Rattle.two_way_search.proofs.Trees.{walk_of, chain_of}
+use Rattle.two_way_search.proofs.Trees.{walk_of}
 use Rattle.two_way_search.proofs.Meet.{IsMetWithin, met_at_end}
-use Rattle.two_way_search.proofs.Keyed.{over, key_below, next_over, limit_of, starts_on_side}
+use Rattle.two_way_search.proofs.Keyed.{key_below, next_over, limit_of, starts_on_side}
 
 -- two walks that join
 walk_on : (network : Network) (hops more : List Hop) (a b c : ℕ) → IsWalk network a hops b → IsWalk network b more c → IsWalk network a (hops ++ more) c × (weight_of (hops ++ more) ≡ weight_of hops + weight_of more)

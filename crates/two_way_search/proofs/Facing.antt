@@ -4,7 +4,7 @@ use Rattle.gh_base.specs.declared.edges.Hop.{Hop}
 use Rattle.gh_base.specs.Networks.{Network}
 use Rattle.walk_rules.specs.Walks.{IsWalk, weight_of, cost, HasEachBack}
 use Rattle.walk_rules.specs.Potentials.{IsWithin, IsFeasible}
-use Rattle.walk_rules.proofs.Walking.{falls_along_walk, feasible_below}
+use Rattle.walk_rules.proofs.Walking.{falls_along_walk}
 use Rattle.walk_rules.proofs.Turning.{walk_back}
 use Rattle.two_way_search.specs.Turned.{HasEachTurned, IsTurned}
 use Rattle.two_way_search.specs.Opposed.{AreOpposed}

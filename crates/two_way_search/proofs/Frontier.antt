@@ -7,7 +7,7 @@ use Rattle.walk_rules.proofs.Options.{some_or_none, some_of}
 use Rattle.search_queue.specs.Keys.{key_at}
 use Rattle.alt_search.specs.declared.reach.Reach.{Reach}
 use Rattle.alt_search.specs.Progress.{reach_at, IsSettled}
-use Rattle.two_way_search.specs.Sides.{FallsTwice, IsTree, IsOrdered, IsUnderway}
+use Rattle.two_way_search.specs.Sides.{FallsTwice, IsOrdered, IsUnderway}
 use Rattle.two_way_search.proofs.Facing.{falls_twice_along}
 
 -- an open node on a walk, known by a walk that is no heavier than the way there, and the rest of the walk

@@ -1,7 +1,7 @@
 -- A side while the hops of a node are taken into account.
-use Rattle.std.proofs.Common.{◌≡◌, ◌≢◌, ℕ, ◌+◌, ◌*◌, ◌^◌, ◌<◌, ◌≤◌, Bool, Option, Some, None, IsSome, IfSome, IfNone, IsSomeAnd, List, [], ◌∷◌, length, Contains, refl, sym, subst, ap, ◌∙◌, inl, inr, arith}
+use Rattle.std.proofs.Common.{◌≡◌, ℕ, ◌+◌, ◌*◌, ◌^◌, ◌<◌, ◌≤◌, Option, Some, None, IsSome, IfSome, IfNone, IsSomeAnd, List, [], ◌∷◌, length, Contains, refl, sym, subst, ap, ◌∙◌, inl, inr, arith}
 use Rattle.std.specs.Prelude.{slice_set}
-use Rattle.std.proofs.lemmas.List.{get_or-set_same, get_or-set_other}
+use Rattle.std.proofs.lemmas.List.{get_or-set_other}
 use Rattle.std.proofs.lemmas.Bool.{cases_eq}
 use Rattle.gh_base.specs.declared.edges.Hop.{Hop}
 use Rattle.gh_base.specs.declared.edges.NodeId.{NodeId}
@@ -16,7 +16,7 @@ use Rattle.alt_search.proofs.Listed.{emptied}
 use Rattle.alt_search.proofs.Useful.{first_left, later_left}
 use Rattle.two_way_search.specs.declared.meeting.Meeting.{Meeting}
 use Rattle.two_way_search.specs.declared.side.Side.{Side}
-use Rattle.two_way_search.specs.Sides.{reduced_by, FallsTwice, AreSmall, AreAsked, IsTree, IsOrdered, IsUnderway, Relaxes, IsNext, IsSide}
+use Rattle.two_way_search.specs.Sides.{reduced_by, FallsTwice, AreSmall, AreAsked, IsOrdered, IsUnderway, Relaxes, IsNext, IsSide}
 use Rattle.two_way_search.specs.Meetings.{IsNoHeavier, IsFound, IsMet}
 use Rattle.two_way_search.proofs.Settle.{settle_ordered}
 use Rattle.two_way_search.proofs.Relax.{relax_ordered, relax_settled, relax_reached, relax_elsewhere}

@@ -1,9 +1,9 @@
 -- What both sides were started at, by the keys of nodes.
-use Rattle.std.proofs.Common.{◌≡◌, ℕ, ◌+◌, ◌-◌, ◌*◌, ◌^◌, ◌<◌, ◌≤◌, ◌⊎◌, Bool, true, Option, Some, None, IsSome, IfSome, IsSomeAnd, List, [], refl, sym, subst, ap, ◌∙◌, inl, inr, arith}
+use Rattle.std.proofs.Common.{◌≡◌, ℕ, ◌+◌, ◌-◌, ◌*◌, ◌^◌, ◌<◌, ◌≤◌, ◌⊎◌, true, Option, Some, None, List, refl, ap, inl, inr, arith}
 use Rattle.gh_base.specs.declared.edges.Hop.{Hop}
 use Rattle.gh_base.specs.declared.edges.NodeId.{NodeId}
 use Rattle.gh_base.specs.Networks.{Network}
-use Rattle.walk_rules.specs.Walks.{IsWalk, weight_of, IsLeastWeight, NoWalk}
+use Rattle.walk_rules.specs.Walks.{IsWalk, weight_of}
 use Rattle.walk_rules.proofs.Walking.{falls_along_walk}
 use Rattle.walk_rules.proofs.Options.{some_of}
 use Rattle.walk_rules.proofs.Single.{one_least_weight}
@@ -11,17 +11,14 @@ use Rattle.search_queue.specs.Keys.{key_at}
 use Rattle.alt_search.specs.declared.reach.Reach.{Reach}
 use Rattle.alt_search.specs.Progress.{reach_at, IsSettled, is_settled}
 use Rattle.alt_search.proofs.Underway.{settled_true, true_settled}
-use Rattle.two_way_search.specs.declared.meeting.Meeting.{Meeting}
 use Rattle.two_way_search.specs.declared.side.Side.{Side}
-use Rattle.two_way_search.specs.Keys.{IsKey, IsBelow, AddUpTo, StartsOnSide, StartsOnBothSides}
+use Rattle.two_way_search.specs.Keys.{IsKey, IsBelow, StartsOnSide}
 use Rattle.two_way_search.specs.Opposed.{AreOpposed}
-use Rattle.two_way_search.specs.Sides.{reduced_by, AreSmall, IsNext, IsSide}
-use Rattle.two_way_search.specs.Meetings.{IsMet, MayGoOn, AreUnderway}
-use Rattle.two_way_search.proofs.Facing.{facing, reduced_falls, passed_rises, passed_below, reduced_both, reduced_is, left_there, small_left, small_passed}
+use Rattle.two_way_search.specs.Sides.{reduced_by, IsNext, IsSide}
+use Rattle.two_way_search.proofs.Facing.{reduced_falls, passed_rises, passed_below, reduced_both, reduced_is, left_there, small_passed}
 use Rattle.two_way_search.proofs.Trees.{walk_of}
 use Rattle.two_way_search.proofs.Frontier.{on_walk, settled_least}
 use Rattle.two_way_search.proofs.Going.{next_known}
-use Rattle.two_way_search.proofs.Meet.{met_at_end}
 
 -- a number of a side as it stands in the queue, in place of the key: it is over it by 2^64 and what is left at the end
 abbrev pub over : ℕ → ℕ → ℕ

@@ -1,17 +1,15 @@
 -- Both sides meet on each walk, or their least keys are no further than it.
-use Rattle.std.proofs.Common.{◌≡◌, ℕ, ◌+◌, ◌-◌, ◌*◌, ◌^◌, ◌<◌, ◌≤◌, ◌⊎◌, Option, Some, None, IsSome, IfSome, IsSomeAnd, List, [], refl, sym, ap, ◌∙◌, inl, inr, arith}
+use Rattle.std.proofs.Common.{◌≡◌, ℕ, ◌+◌, ◌-◌, ◌*◌, ◌^◌, ◌<◌, ◌≤◌, ◌⊎◌, Option, Some, None, IsSomeAnd, List, refl, ap, inl, inr, arith}
 use Rattle.gh_base.specs.declared.edges.Hop.{Hop}
 use Rattle.gh_base.specs.declared.edges.NodeId.{NodeId}
 use Rattle.gh_base.specs.Networks.{Network}
 use Rattle.walk_rules.specs.Walks.{IsWalk, weight_of}
 use Rattle.search_queue.specs.Keys.{key_at}
-use Rattle.alt_search.specs.declared.reach.Reach.{Reach}
-use Rattle.alt_search.specs.Progress.{reach_at}
 use Rattle.two_way_search.specs.declared.meeting.Meeting.{Meeting}
 use Rattle.two_way_search.specs.declared.side.Side.{Side}
 use Rattle.two_way_search.specs.Opposed.{AreOpposed}
 use Rattle.two_way_search.specs.Sides.{reduced_by, IsNext, IsSide}
-use Rattle.two_way_search.specs.Meetings.{IsNoHeavier, IsMet, MayGoOn}
+use Rattle.two_way_search.specs.Meetings.{IsMet, MayGoOn}
 use Rattle.two_way_search.proofs.Facing.{facing, reduced_falls, falls_twice_along, turned_walk, passed_below, reduced_both, reduced_is, left_there, small_left, small_passed}
 use Rattle.two_way_search.proofs.Trees.{walk_of}
 use Rattle.two_way_search.proofs.Frontier.{on_walk}

@@ -1,10 +1,10 @@
 -- A walk that goes on by the turned hops of the other side's tree.
-use Rattle.std.proofs.Common.{◌≡◌, ℕ, ◌+◌, unwrap_or, Option, Some, None, IsSome, List, [], ◌∷◌, ◌++◌, Contains, refl, sym, subst, ap, ◌∙◌, arith}
+use Rattle.std.proofs.Common.{◌≡◌, ℕ, ◌+◌, Option, Some, None, List, [], ◌∷◌, ◌++◌, Contains, refl, sym, subst, ap, ◌∙◌, arith}
 use Rattle.gh_base.specs.declared.edges.Hop.{Hop}
 use Rattle.gh_base.specs.declared.edges.NodeId.{NodeId}
 use Rattle.gh_base.specs.declared.edges.DirEdge.{DirEdge}
 use Rattle.gh_base.specs.Networks.{Network}
-use Rattle.walk_rules.specs.Walks.{IsWalk, weight_of, cost, hops_from}
+use Rattle.walk_rules.specs.Walks.{IsWalk, weight_of, hops_from}
 use Rattle.walk_rules.proofs.Walking.{walk_push}
 use Rattle.alt_search.specs.declared.reach.Reach.{Reach}
 use Rattle.alt_search.specs.declared.reach.Step.{Step}

@@ -1,9 +1,7 @@
 -- What lies behind a node rises along each hop by no more than its weight, where labels fit.
 use Rattle.std.specs.Prelude.{nat_lt}
-use Rattle.std.proofs.Common.{◌≡◌, ℕ, ◌+◌, ◌-◌, ◌<◌, ◌≤◌, max, unwrap_or, true, false, All, Option, Some, None, IsSome, List, [], ◌∷◌, refl, sym, subst, ap, ◌∙◌, inl, inr, zero, suc, arith}
+use Rattle.std.proofs.Common.{◌≡◌, ℕ, ◌-◌, ◌<◌, max, unwrap_or, All, Option, Some, None, IsSome, List, [], ◌∷◌, refl, sym, subst, ap, ◌∙◌, inl, inr, arith}
 use Rattle.std.proofs.lemmas.Bool.{cases_Bool, lt-ltb}
-use Rattle.std.proofs.lemmas.List.Elements.{All-head, All-tail}
-use Rattle.gh_base.specs.declared.edges.Hop.{Hop}
 use Rattle.gh_base.specs.Networks.{Network, LeadsToNodes}
 use Rattle.walk_rules.specs.Walks.{cost, IsNoFaster}
 use Rattle.walk_rules.specs.Potentials.{IsWithin, FallsAlong, IsFeasible}

@@ -1,5 +1,5 @@
 -- Both sides between two turns.
-use Rattle.std.proofs.Common.{◌≡◌, ◌≢◌, ℕ, ◌+◌, ◌-◌, ◌*◌, ◌^◌, ◌<◌, ◌≤◌, ◌⊎◌, Option, Some, None, IfSome, IsSomeAnd, List, [], length, replicate, refl, sym, subst, ap, ◌∙◌, inl, inr, arith}
+use Rattle.std.proofs.Common.{◌≡◌, ◌≢◌, ℕ, ◌+◌, ◌-◌, ◌*◌, ◌^◌, ◌<◌, ◌≤◌, Option, Some, None, IfSome, List, replicate, refl, sym, ap, ◌∙◌, inl, inr, arith}
 use Rattle.std.specs.Prelude.{slice_set}
 use Rattle.gh_base.specs.declared.edges.Hop.{Hop}
 use Rattle.gh_base.specs.declared.edges.NodeId.{NodeId}
@@ -10,7 +10,7 @@ use Rattle.alt_search.specs.Progress.{reach_at}
 use Rattle.two_way_search.specs.declared.meeting.Meeting.{Meeting}
 use Rattle.two_way_search.specs.declared.side.Side.{Side}
 use Rattle.two_way_search.specs.Opposed.{AreOpposed}
-use Rattle.two_way_search.specs.Sides.{reduced, reduced_by, AreSmall, AreAsked, IsNext, IsSide}
+use Rattle.two_way_search.specs.Sides.{reduced, reduced_by, AreSmall, IsNext, IsSide}
 use Rattle.two_way_search.specs.Meetings.{IsFound, IsMet, MayGoOn, AreUnderway}
 use Rattle.two_way_search.proofs.Going.{next_known, light_in, asked_at}
 use Rattle.two_way_search.proofs.Begin.{begin_at, nowhere, only_begun}

@@ -1,5 +1,5 @@
 -- What is true of one side of a search between two steps (of this crate alone).
-use Rattle.std.specs.Prelude.{◌≡◌, ⊤, ℕ, ◌+◌, ◌-◌, ◌*◌, ◌^◌, ◌<◌, ◌≤◌, ◌⊎◌, Option, Some, None, IsSome, IfSome, List, [], length, Contains, slice_set}
+use Rattle.std.specs.Prelude.{◌≡◌, ℕ, ◌+◌, ◌-◌, ◌*◌, ◌^◌, ◌<◌, ◌≤◌, ◌⊎◌, Option, Some, None, IsSome, IfSome, List, [], length, Contains, slice_set}
 use Rattle.gh_base.specs.declared.edges.Hop.{Hop}
 use Rattle.gh_base.specs.declared.edges.NodeId.{NodeId}
 use Rattle.gh_base.specs.Networks.{Network}

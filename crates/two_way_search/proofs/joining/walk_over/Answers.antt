@@ -1,5 +1,4 @@
 use Rattle.std.proofs.Common.{◌≡◌, ◌+◌, ap, sym, ◌∙◌, arith}
-use Rattle.walk_rules.specs.Walks.{weight_of}
 use Rattle.walk_rules.proofs.Options.{some_of}
 use Rattle.alt_search.specs.declared.reach.Reach.{Reach}
 use Rattle.alt_search.specs.Progress.{reach_at}

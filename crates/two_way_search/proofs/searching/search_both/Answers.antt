@@ -1,5 +1,4 @@
-use Rattle.std.proofs.Common.{◌≡◌, ◌+◌, ◌≤◌, Some, None, [], refl, sym, ap, ◌∙◌, arith}
-use Rattle.walk_rules.specs.Walks.{IsWalk, weight_of}
+use Rattle.std.proofs.Common.{[], sym, ◌∙◌}
 use Rattle.two_way_search.proofs.Facing.{opposed, left_there}
 use Rattle.two_way_search.proofs.Trees.{chain_of}
 use Rattle.two_way_search.proofs.Ends.{walk_through, none_met, met_least, met_at, starts_on_both, left_missing, none_ahead, none_behind}

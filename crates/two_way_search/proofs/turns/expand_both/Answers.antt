@@ -1,4 +1,4 @@
-use Rattle.std.proofs.Common.{◌≡◌, ◌+◌, ◌<◌, ◌≤◌, refl, sym, ◌∙◌, arith}
+use Rattle.std.proofs.Common.{refl, sym, ◌∙◌, arith}
 use Rattle.two_way_search.specs.Meetings.{AreUnderway}
 use Rattle.two_way_search.proofs.Going.{few_settled}
 use Rattle.two_way_search.proofs.Turn.{next_light, met_light, begin_side, begin_both}

@@ -1,4 +1,4 @@
-use Rattle.std.proofs.Common.{◌≡◌, ◌+◌, ◌<◌, ◌≤◌, ℕ, Some, length, sym, subst, ap, ◌∙◌, arith}
+use Rattle.std.proofs.Common.{◌≡◌, ℕ, sym, ap, ◌∙◌, arith}
 use Rattle.gh_base.specs.declared.edges.NodeId.{NodeId}
 use Rattle.alt_search.specs.Progress.{is_known_within}
 use Rattle.alt_search.proofs.Useful.{fewer_left}
