@@ -72,8 +72,8 @@ module _ {out back : Network} {ahead behind : ℕ → Option ℕ} {start target 
       starts_on_both = record {
         first = is_settled forward.reached u.first.open_keys;
         second = is_settled backward.reached u.second.open_keys;
-        x = limit_of o u.first first first_is forward.next;
-        y = limit_of (facing o) u.second second second_is backward.next;
+        limit = limit_of o u.first first first_is forward.next;
+        other_limit = limit_of (facing o) u.second second second_is backward.next;
         from_start = starts_on_side o u.first first first_is;
         from_target = starts_on_side (facing o) u.second second second_is;
         far = λ total k. far_of total k forward.next backward.next refl refl;

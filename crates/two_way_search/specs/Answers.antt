@@ -25,5 +25,5 @@ backward_of (Walk hops weight forward backward) = backward
 backward_of (NoWalk forward backward) = backward
 
 -- nothing is to be searched: both are one node, or a bound shows that no walk leads from the one to the other
-abbrev pub IsSettledAtOnce : (ℕ → Option ℕ) → (ℕ → Option ℕ) → ℕ → ℕ → Type 0
-IsSettledAtOnce ahead behind start target = (start ≡ target) ⊎ (ahead start ≡ None) ⊎ (behind target ≡ None)
+abbrev pub NeedsNoSearch : (ℕ → Option ℕ) → (ℕ → Option ℕ) → ℕ → ℕ → Type 0
+NeedsNoSearch ahead behind start target = (start ≡ target) ⊎ (ahead start ≡ None) ⊎ (behind target ≡ None)

@@ -23,7 +23,7 @@ pub record IsMet (reached other : List (Option Reach)) (met : Option Meeting) : 
   pub best : (node : ℕ) → IsNoHeavier reached other met node
   pub found : IsFound reached other met
 
--- whether a walk that isn't known may be lighter than the best: both sides have an open node, and their least keys are together less than the best walk's, which is over 2^65 as both keys are
+-- a walk that isn't known may be lighter than the best: both sides have an open node, and their least keys, each of which has 2^64 in it, are together less than twice the best walk's weight
 abbrev pub MayGoOn : Option (NodeId × ℕ) → Option (NodeId × ℕ) → Option Meeting → Type 0
 MayGoOn None second met = ⊥
 MayGoOn (Some first) None met = ⊥

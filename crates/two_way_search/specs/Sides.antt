@@ -12,7 +12,7 @@ use Rattle.alt_search.specs.declared.reach.Step.{Step}
 use Rattle.alt_search.specs.Progress.{reach_at, IsSettled, Extends, IsRelaxed, is_settled}
 use Rattle.two_way_search.specs.declared.side.Side.{Side}
 
--- what is left from a node less what lies behind it, over -2^64; what lies behind is taken as 2^64 where it isn't there
+-- what is left from a node less what lies behind it, and 2^64 so that nothing is negative; what lies behind is 2^64 where it isn't told
 abbrev pub reduced : Option ℕ → Option ℕ → Option ℕ
 reduced None passed = None
 reduced (Some left) None = Some left

@@ -22,8 +22,10 @@ pub fn walk_over(
     requires there { IsSome (reach_at backward.now node.0) }
     requires chain { IsChain forward.now }
     requires chain_back { IsChain backward.now }
-    ensures { IfOk result (λ hops. (out back : Network) (bound other : ℕ → Option ℕ) (start target settled count : ℕ) (keys rest : List (Option ℕ)) (here there : Reach) →
-        IsTurned out back → IsTree out bound start settled forward.now keys → IsTree back other target count backward.now rest →
+    ensures { IfOk result (λ hops. (out back : Network) (bound other : ℕ → Option ℕ)
+        (start target settled count : ℕ) (keys rest : List (Option ℕ)) (here there : Reach) →
+        IsTurned out back → IsTree out bound start settled forward.now keys →
+        IsTree back other target count backward.now rest →
         reach_at forward.now node.0 ≡ Some here → reach_at backward.now node.0 ≡ Some there →
         IsWalk out start hops target × (weight_of hops ≡ here.weight + there.weight)) }
 {

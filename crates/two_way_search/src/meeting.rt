@@ -27,10 +27,13 @@ pub fn best_over(
 ) -> Option<Meeting>
     requires reached { node.0 < length reached.now }
     requires other { node.0 < length other.now }
-    requires here { (reach : Reach) → reach_at reached.now node.0 ≡ Some reach → reach.weight ≤ 2 ^ 96 }
-    requires there { (reach : Reach) → reach_at other.now node.0 ≡ Some reach → reach.weight ≤ 2 ^ 96 }
+    requires here { (reach : Reach) →
+        reach_at reached.now node.0 ≡ Some reach → reach.weight ≤ 2 ^ 96 }
+    requires there { (reach : Reach) →
+        reach_at other.now node.0 ≡ Some reach → reach.weight ≤ 2 ^ 96 }
     ensures node { IsNoHeavier reached.now other.now result node.0 }
-    ensures others { IfSome met (λ m. IsSome result × IfSome result (λ best. best.weight ≤ m.weight)) }
+    ensures others { IfSome met (λ m.
+        IsSome result × IfSome result (λ best. best.weight ≤ m.weight)) }
     ensures found { IsFound reached.now other.now met → IsFound reached.now other.now result }
 {
     let Some(there) = other.weight(node) else {

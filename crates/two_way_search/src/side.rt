@@ -15,8 +15,8 @@ use std::alloc::Global;
 /// Over every bound: what lies behind a node is taken from it.
 const ROOM: u128 = 1 << 64;
 
-/// What one side knows of each node, which nodes are open, and at how many it was started. The next node
-/// to start at, with its key, is out of the queue.
+/// What one side knows of each node, which nodes are open, and at how many it was started. The next
+/// node to start at, with its key, is out of the queue.
 #[derive(Drop)]
 pub struct Side {
     pub reached: Reached,
@@ -25,7 +25,8 @@ pub struct Side {
     pub settled: u32,
 }
 
-/// What is left from a node less what lies behind it, over -2^64; None where nothing says what is left.
+/// What is left from a node less what lies behind it, and 2^64. None where nothing is told of what
+/// is left.
 pub fn reduced_at<P: Potential, Q: Potential>(ahead: &P, behind: &Q, node: NodeId) -> Option<u128>
     ensures is { result ≡ reduced_by (P.bound ahead.now) (Q.bound behind.now) node.0 }
     ensures small { IsSome result → AreSmall (P.bound ahead.now) (Q.bound behind.now) node.0 }
@@ -42,9 +43,10 @@ impl Side {
     /// The end alone is reached, and is next.
     pub fn begin(alloc: Global, nodes: u32, end: NodeId, bound: u128) -> Result<Side, NoMemory>
         requires { end.0 < nodes }
-        ensures reached { IfOk result (λ side. side.reached ≡
-            slice_set (replicate nodes None) end.0 (Some (record { weight = 0; depth = 0; last = None }))) }
-        ensures next { IfOk result (λ side. IsNext side.next (slice_set (replicate nodes None) end.0 (Some bound)) side.queue) }
+        ensures reached { IfOk result (λ side. side.reached ≡ slice_set (replicate nodes None) end.0
+            (Some (record { weight = 0; depth = 0; last = None }))) }
+        ensures next { IfOk result (λ side.
+            IsNext side.next (slice_set (replicate nodes None) end.0 (Some bound)) side.queue) }
         ensures settled { IfOk result (λ side. side.settled ≡ 0) }
     {
         let mut reached = Reached::new(alloc, nodes)?;
@@ -60,8 +62,8 @@ impl Side {
         })
     }
 
-    /// Starts the view at the next node and takes its hops into account. Where the other side knows the
-    /// head of one, a walk over it may be the best.
+    /// Starts the view at the next node and takes its hops into account. Where the other side knows
+    /// the head of one, a walk over it may be the best.
     pub fn settle_next<V: RoadView, P: Potential, Q: Potential>(
         &mut self,
         view: &mut V,
@@ -73,17 +75,22 @@ impl Side {
         requires next { IsSome self.old.next }
         requires count { V.starts view.old < 2 ^ 64 - 1 }
         requires few { (V.network view.old).nodes < 2 ^ 32 }
-        requires falls { FallsTwice (V.network view.old) (reduced_by (P.bound ahead.now) (Q.bound behind.now)) }
+        requires falls { FallsTwice (V.network view.old)
+            (reduced_by (P.bound ahead.now) (Q.bound behind.now)) }
         requires other { length other.now ≡ (V.network view.old).nodes }
-        requires light { (node : ℕ) (reach : Reach) → reach_at other.now node ≡ Some reach → reach.weight ≤ 2 ^ 96 }
-        requires side { (end least : ℕ) × IsSide (V.network view.old) (P.bound ahead.now) (Q.bound behind.now) end least self.old }
+        requires light { (node : ℕ) (reach : Reach) →
+            reach_at other.now node ≡ Some reach → reach.weight ≤ 2 ^ 96 }
+        requires side { (end least : ℕ) × IsSide (V.network view.old)
+            (P.bound ahead.now) (Q.bound behind.now) end least self.old }
         requires met { IsMet self.old.reached other.now met }
         ensures network { V.network view.new ≡ V.network view.old }
         ensures starts { V.starts view.new ≡ V.starts view.old + 1 }
         ensures settled { self.new.settled ≡ self.old.settled + 1 }
         ensures side { (end least : ℕ) (next : NodeId × ℕ) → self.old.next ≡ Some next →
-            IsSide (V.network view.old) (P.bound ahead.now) (Q.bound behind.now) end least self.old →
-            IsSide (V.network view.old) (P.bound ahead.now) (Q.bound behind.now) end next.1 self.new }
+            IsSide (V.network view.old) (P.bound ahead.now) (Q.bound behind.now) end least
+            self.old →
+            IsSide (V.network view.old) (P.bound ahead.now) (Q.bound behind.now) end next.1
+            self.new }
         ensures met { IsMet self.new.reached other.now result }
     {
         let Some((node, _key)) = self.next else {
@@ -113,8 +120,8 @@ impl Side {
     }
 }
 
-/// Takes a hop of a settled node into account. The potentials are asked only of a head that is reached for
-/// the first time.
+/// Takes a hop of a settled node into account. The potentials are asked only of a head that is
+/// reached for the first time.
 fn relax<P: Potential, Q: Potential>(
     reached: &mut Reached,
     queue: &mut Queue,
@@ -126,11 +133,13 @@ fn relax<P: Potential, Q: Potential>(
 )
     requires reached { hop.to.0 < length reached.old }
     requires keys { hop.to.0 < length queue.old }
-    requires queued { AreQueued (reduced_by (P.bound ahead.now) (Q.bound behind.now)) reached.old queue.old }
+    requires queued { AreQueued (reduced_by (P.bound ahead.now) (Q.bound behind.now))
+        reached.old queue.old }
     requires asked { AreAsked (P.bound ahead.now) (Q.bound behind.now) reached.old }
     requires depth { from.depth < 2 ^ 32 - 1 }
     requires weight { from.weight ≤ 2 ^ 64 * from.depth }
-    ensures relaxes { Relaxes (reduced_by (P.bound ahead.now) (Q.bound behind.now)) tail from hop reached.old queue.old reached.new queue.new }
+    ensures relaxes { Relaxes (reduced_by (P.bound ahead.now) (Q.bound behind.now)) tail from hop
+        reached.old queue.old reached.new queue.new }
     ensures asked { AreAsked (P.bound ahead.now) (Q.bound behind.now) reached.new }
 {
     let Some(weight) = hop.weight else { return };
