@@ -19,3 +19,5 @@ mod landmark_prep_calls;
 mod query_graph_calls;
 #[cfg(test)]
 mod search_queue_calls;
+#[cfg(test)]
+mod two_way_search_calls;

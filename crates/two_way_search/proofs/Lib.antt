@@ -1,0 +1,15 @@
+pub mod Begin
+pub mod Settle
+pub mod Relax
+pub mod Useful
+pub mod Underway
+pub mod Trees
+pub mod Facing
+pub mod Frontier
+pub mod Meet
+pub mod Going
+pub mod Keyed
+pub mod Ends
+pub mod Turn
+pub mod Onward
+pub mod Rising
