@@ -87,8 +87,8 @@ module _ {out back : Network} {ahead behind : ℕ → Option ℕ} {start target 
           total_is total k =
               let a : k.left ≡ 0 = let x = k.left_is in let y = o.left.at_target in cc in
               let b : k.passed ≡ second = let x = k.passed_is in cc in
-              let c : k.left_first ≡ first = let x = k.left_first_is in cc in
-              let d : k.passed_first ≡ 0 = let x = k.passed_first_is in let y = o.passed.at_target in cc in
+              let c : k.end_left ≡ first = let x = k.end_left_is in cc in
+              let d : k.end_passed ≡ 0 = let x = k.end_passed_is in let y = o.passed.at_target in cc in
               omega (arith, k.key_is)
 
           far_of : (total : ℕ) → IsKey out ahead behind start target total → (one other : Option (NodeId × ℕ)) → forward.next ≡ one → backward.next ≡ other → AddUpTo total (limit_of o u.first first first_is one) (limit_of (facing o) u.second second second_is other)

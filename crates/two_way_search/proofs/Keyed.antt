@@ -22,7 +22,7 @@ use Rattle.two_way_search.proofs.Going.{next_known}
 
 -- a number of a side as it stands in the queue, in place of the key: it is over it by 2^64 and what is left at the end
 abbrev pub over : ℕ → ℕ → ℕ
-over key left_first = key + left_first + 2 ^ 64
+over key end_left = key + end_left + 2 ^ 64
 
 module _ {out back : Network} {ahead behind : ℕ → Option ℕ} {start target least : ℕ} {side : Side} (o : AreOpposed out back ahead behind start target) (s : IsSide out ahead behind start least side) (first : ℕ) (first_is : ahead start ≡ Some first) where
   -- both bounds of a node that was reached, and its walk
@@ -73,10 +73,10 @@ module _ {out back : Network} {ahead behind : ℕ → Option ℕ} {start target 
           left_is = k.left_is;
           passed = k.passed;
           passed_is = k.passed_is;
-          left_first = first;
-          left_first_is = first_is;
-          passed_first = 0;
-          passed_first_is = o.passed.at_target;
+          end_left = first;
+          end_left_is = first_is;
+          end_passed = 0;
+          end_passed_is = o.passed.at_target;
           key_is = omega (arith, k.first_below, k.passed_below);
         },
         omega (arith, k.first_below, k.passed_below, k.b_is, k.small),
@@ -88,8 +88,8 @@ module _ {out back : Network} {ahead behind : ℕ → Option ℕ} {start target 
       let d = one_least_weight out start node k.distance l.distance k.distance_is l.distance_is in
       let a : k.left ≡ l.left = let x = k.left_is in let y = l.left_is in cc in
       let b : k.passed ≡ l.passed = let x = k.passed_is in let y = l.passed_is in cc in
-      let c : k.left_first ≡ l.left_first = let x = k.left_first_is in let y = l.left_first_is in cc in
-      let e : k.passed_first ≡ l.passed_first = let x = k.passed_first_is in let y = l.passed_first_is in cc in
+      let c : k.end_left ≡ l.end_left = let x = k.end_left_is in let y = l.end_left_is in cc in
+      let e : k.end_passed ≡ l.end_passed = let x = k.end_passed_is in let y = l.end_passed_is in cc in
       omega (arith, k.key_is, l.key_is)
 
   -- the key of a settled node is no more than the last
@@ -116,8 +116,8 @@ module _ {out back : Network} {ahead behind : ℕ → Option ℕ} {start target 
             let rises = passed_rises o p.rest p.node node p.walk q.passed q.passed_is in
             let a : falls.0 ≡ q.left = let x = falls.1 in let y = q.left_is in cc in
             let b : rises.0 ≡ k.passed = let x = rises.1 in let y = k.passed_is in cc in
-            let c : k.left_first ≡ first = let x = k.left_first_is in cc in
-            let d : k.passed_first ≡ 0 = let x = k.passed_first_is in let y = o.passed.at_target in cc in
+            let c : k.end_left ≡ first = let x = k.end_left_is in cc in
+            let d : k.end_passed ≡ 0 = let x = k.end_passed_is in let y = o.passed.at_target in cc in
             inr (next.0, next.1, omega (arith, next.2, q.b_is, q.small, falls.2, rises.2, p.before, k.distance_is.weight_is, k.key_is))
       ]
     where

@@ -4,7 +4,7 @@ use Rattle.gh_base.specs.Networks.{Network}
 use Rattle.walk_rules.specs.Walks.{IsLeastWeight, NoWalk}
 use Rattle.walk_rules.specs.Starts.{count_below}
 
--- the key of a node from an end: twice its distance from there, and how far what is left is over what lies behind, at the node less at the end; each difference stands as a sum, on the other side
+-- the key of a node from an end: twice its distance from there, and the difference of its two bounds less that of the end's; what is taken away stands on the other side
 pub record IsKey (network : Network) (ahead behind : ℕ → Option ℕ) (end node key : ℕ) : Type 0 where
   pub distance : ℕ
   pub distance_is : IsLeastWeight network end node distance
@@ -12,11 +12,11 @@ pub record IsKey (network : Network) (ahead behind : ℕ → Option ℕ) (end no
   pub left_is : ahead node ≡ Some left
   pub passed : ℕ
   pub passed_is : behind node ≡ Some passed
-  pub left_first : ℕ
-  pub left_first_is : ahead end ≡ Some left_first
-  pub passed_first : ℕ
-  pub passed_first_is : behind end ≡ Some passed_first
-  pub key_is : key + left_first + passed ≡ 2 * distance + left + passed_first
+  pub end_left : ℕ
+  pub end_left_is : ahead end ≡ Some end_left
+  pub end_passed : ℕ
+  pub end_passed_is : behind end ≡ Some end_passed
+  pub key_is : key + end_left + passed ≡ 2 * distance + left + end_passed
 
 -- a number is below a limit, which is a number or, where there is none, over every number
 abbrev pub IsBelow : ℕ → Option ℕ → Type 0
@@ -35,7 +35,7 @@ pub record StartsOnSide (network : Network) (ahead behind : ℕ → Option ℕ) 
   pub only : (node : ℕ) → started node ≡ true → (key : ℕ) × IsKey network ahead behind end node key
   pub each : (node key : ℕ) → IsKey network ahead behind end node key → IsBelow key limit → started node ≡ true
 
--- Both sides were. The total of a least walk is the target's key from the start: any two keys of nodes at which the sides were started are together no more, and the limits no less. Where there is no walk, one side was started at all nodes that it reaches.
+-- Both sides were. A least walk's total is the target's key from the start: the keys of a node at which the one side was started and of one at which the other was are together no more, and the limits no less. Where there is no walk, one side was started at each node that has a key.
 pub record StartsOnBothSides (out back : Network) (ahead behind : ℕ → Option ℕ) (start target forward backward : ℕ) : Type 0 where
   pub first : ℕ → Bool
   pub second : ℕ → Bool
