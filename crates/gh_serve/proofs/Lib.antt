@@ -3,3 +3,4 @@ pub mod Unwritten
 pub mod Asked
 pub mod Complete
 pub mod LinesBehind
+pub mod Cars
