@@ -11,6 +11,8 @@ use Rattle.pbf_wire.specs.Files as pbf
 use Rattle.pbf_reader.specs.declared.fault.PbfFault.{PbfFault}
 use Rattle.pbf_reader.specs.declared.fault.PbfFault.TheVariants as pbf_fault
 use Rattle.map_import.specs.Refusals.{Laid, roads}
+use Rattle.prep_store.specs.declared.fault.PrepFault.{PrepFault}
+use Rattle.prep_store.specs.declared.fault.PrepFault.TheVariants as prep_fault
 use Rattle.script_text.specs.declared.script.ScriptRead.{ScriptRead}
 use Rattle.script_text.specs.declared.fault.ScriptFault.TheVariants as script_fault
 use Rattle.script_text.specs.Grammar.{script_of}
@@ -200,6 +202,30 @@ abbrev pub IsOfCheck : Status → Type 0
 IsOfCheck (status.ReadFault which.Script) = Unit {0}
 IsOfCheck (status.BadPrep fault) = Unit {0}
 IsOfCheck status = IsOfRoads status
+
+-- those that come of them once the map is read
+abbrev pub IsOfPreparing : Status → Type 0
+IsOfPreparing (status.TooLarge quantity.Labels limit) = Unit {0}
+IsOfPreparing status.NoLandmark = Unit {0}
+IsOfPreparing status = IsOfRun status
+
+abbrev pub IsOfChecking : Status → Type 0
+IsOfChecking (status.ReadFault which.Script) = Unit {0}
+IsOfChecking (status.BadPrep fault) = Unit {0}
+IsOfChecking status = IsOfRun status
+
+-- those that reading a store gives
+abbrev pub IsOfStore : Status → Type 0
+IsOfStore status.NoMemory = Unit {0}
+IsOfStore (status.ReadFault which.Script) = Unit {0}
+IsOfStore (status.BadPrep fault) = Unit {0}
+IsOfStore status = ⊥
+
+-- the status that a reading of a store ends with
+abbrev pub status_of_store : PrepFault → Status
+status_of_store prep_fault.ReadFault = status.ReadFault which.Script
+status_of_store prep_fault.NoMemory = status.NoMemory
+status_of_store fault = status.BadPrep fault
 
 -- the statuses of what the words ask for
 abbrev pub IsStatusOf : Option Asked → Status → Type 0

@@ -115,6 +115,9 @@ prep_word (prep.Order landmark back place) = codes "Order"
 prep_word (prep.Open landmark back edge) = codes "Open"
 prep_word prep.After = codes "After"
 
+abbrev pub prep_text : PrepFault → List ℕ
+prep_text fault = codes "preparation: " ++ prep_word fault
+
 -- the line that says why a run ended so
 abbrev pub fault_text_of : Status → List ℕ
 fault_text_of status.Done = []
@@ -128,4 +131,4 @@ fault_text_of (status.BadMap fault) = codes "gh: " ++ map_text fault
 fault_text_of (status.BadScript line byte kind) = codes "gh: " ++ place_text (codes "script") line byte (script_word kind)
 fault_text_of (status.TooLarge what limit) = codes "gh: " ++ quantity_word what ++ codes " over " ++ decimal limit
 fault_text_of status.NoLandmark = codes "gh: no landmark"
-fault_text_of (status.BadPrep fault) = codes "gh: preparation: " ++ prep_word fault
+fault_text_of (status.BadPrep fault) = codes "gh: " ++ prep_text fault

@@ -1,5 +1,5 @@
 //! Preparations for cars at the opening limits: how they are made and written, and how stores of them are checked.
-ghost use Rattle.std.specs.Prelude.{◌≡◌, ◌⊎◌, ◌<◌, ◌≤◌, ◌*◌, ◌×◌, [], List, ℕ, length, IfOk, IfErr, IsErrOf, IfSome, OnOk, OnErr};
+ghost use Rattle.std.specs.Prelude.{◌≡◌, ◌⊎◌, ◌<◌, ◌≤◌, ◌*◌, [], List, ℕ, length, ◌↔◌, IsTrue, IfOk, IfErr, IsErrOf, IfSome, OnOk, OnErr};
 ghost use Rattle.std.specs.List.{IsDistinct};
 ghost use Rattle.std.specs.Ordering.{int_eq};
 ghost use Rattle.std.specs.Io.KnownBytes.{Appends, Keeps};
@@ -7,8 +7,9 @@ ghost use Rattle.gh_base.specs.Causes.{Rose, AppendsFront};
 ghost use Rattle.landmark_prep.specs.Answers.{IfPrep, IsNoLandmark};
 ghost use Rattle.traffic_core.specs.Lands.{AreAsLong};
 ghost use Rattle.traffic_core.specs.Truth.{IsPrepAt, IsNoPrepAt, IsTrueOver};
+ghost use Rattle.prep_store.specs.Stores.{IsStored};
 ghost use Rattle.gh_serve.specs.Labels.{size_of};
-ghost use Rattle.gh_serve.specs.Statuses.{IsOfCheck, IsOfPrep, IsUnwritten};
+ghost use Rattle.gh_serve.specs.Statuses.{IsOfChecking, IsOfPreparing, IsOfStore, IsUnwritten, status_of_store};
 ghost use Rattle.gh_serve.specs.Preps.{IsChecked, PrepSaysOf, StoreSaysOf, Stores, StoresFront, car_land, checked_text};
 
 use crate::labels::MOST_LABELS;
@@ -28,7 +29,7 @@ fn car_ground(alloc: Global, roads: Roads) -> Result<Ground, NoMemory>
     requires lengths { AreAsLong roads.graph.lists }
     requires ids { length roads.ids ≡ length roads.graph.lists.places }
     requires distinct { IsDistinct int_eq roads.ids }
-    ensures { IfOk result (λ ground. ground ≡ car_land roads) }
+    ensures { IfOk result (λ made. made ≡ car_land roads) }
 {
     let mut profiles = Profiles::new(alloc);
     profiles.push(car_profile(alloc)?)?;
@@ -55,6 +56,15 @@ fn prepare_opening<R: Threads + Sync>(
     Ok(made)
 }
 
+/// Whether so many landmarks have no more labels than may be asked for.
+fn are_few_for(roads: &Roads, count: u32) -> bool
+    requires { length roads.now.ids ≡ length roads.now.graph.lists.places }
+    ensures { IsTrue result ↔ (count * size_of (car_land roads.now) ≤ 150000000) }
+{
+    let size = roads.graph.node_count() + roads.graph.edge_count();
+    u64::from(count) * u64::from(size) <= MOST_LABELS
+}
+
 /// Writes the store of a preparation of the roads for cars at the opening limits, with at most `count` landmarks.
 pub(crate) fn write_store<R: Threads + Sync, K: Sink>(
     rt: &R,
@@ -68,7 +78,7 @@ pub(crate) fn write_store<R: Threads + Sync, K: Sink>(
     requires distinct { IsDistinct int_eq roads.ids }
     requires some { 1 ≤ count }
     requires few { count ≤ 16 }
-    ensures statuses { IsOfPrep result }
+    ensures statuses { IsOfPreparing result }
     ensures says { PrepSaysOf result (car_land roads) count (count * size_of (car_land roads)) }
     ensures done { result ≡ Status.Done →
         Stores count (K.held out.old) (K.held out.new) (car_land roads) }
@@ -78,12 +88,9 @@ pub(crate) fn write_store<R: Threads + Sync, K: Sink>(
         StoresFront count (K.held out.old) (K.held out.new) (car_land roads)
         ⊎ Keeps (K.held out.old) (K.held out.new) }
     ensures nothing { IsUnwritten result → Keeps (K.held out.old) (K.held out.new) }
-    ensures early { result ≡ Status.OpenFault → ⊥ }
-    ensures unread { result ≡ Status.ReadFault Which.Map → ⊥ }
     ensures cause { result ≡ Status.WriteFault → Rose (K.faults out.old) (K.faults out.new) }
 {
-    let size = roads.graph.node_count() + roads.graph.edge_count();
-    if u64::from(count) * u64::from(size) > MOST_LABELS {
+    if !are_few_for(&roads, count) {
         return Status::TooLarge {
             what: Quantity::Labels,
             limit: MOST_LABELS,
@@ -127,6 +134,30 @@ fn tell<K: Sink>(alloc: Global, prep: &Prep, out: &mut K) -> Result<(), GiveFaul
     Ok(())
 }
 
+const fn status_of_store(fault: PrepFault) -> Status
+    ensures { result ≡ status_of_store fault }
+{
+    match fault {
+        PrepFault::ReadFault => Status::ReadFault(Which::Script),
+        PrepFault::NoMemory => Status::NoMemory,
+        fault => Status::BadPrep(fault),
+    }
+}
+
+/// Reads a store of a preparation of the ground.
+fn read_store<I: Source>(alloc: Global, ground: &Ground, store: &mut I) -> Result<Prep, Status>
+    ensures stored { IfOk result (λ prep. IfSome (I.left store.old) (IsStored ground.now prep)) }
+    ensures says { IfErr result (λ status. IfSome (I.left store.old) (StoreSaysOf status ground.now)) }
+    ensures early { IfErr result IsOfStore }
+    ensures read { IsErrOf result (Status.ReadFault Which.Script) →
+        Rose (I.faults store.old) (I.faults store.new) }
+{
+    match read_prep(alloc, ground, store) {
+        Ok(prep) => Ok(prep),
+        Err(fault) => Err(status_of_store(fault)),
+    }
+}
+
 /// Reads a store of a preparation of the roads for cars, and tells of it.
 pub(crate) fn check_store<I: Source, K: Sink>(
     alloc: Global,
@@ -137,7 +168,7 @@ pub(crate) fn check_store<I: Source, K: Sink>(
     requires lengths { AreAsLong roads.graph.lists }
     requires ids { length roads.ids ≡ length roads.graph.lists.places }
     requires distinct { IsDistinct int_eq roads.ids }
-    ensures statuses { IsOfCheck result }
+    ensures statuses { IsOfChecking result }
     ensures says { IfSome (I.left store.old) (StoreSaysOf result (car_land roads)) }
     ensures done { result ≡ Status.Done → IfSome (I.left store.old) (λ bytes.
         (text : List ℕ) × IsChecked bytes text (car_land roads)
@@ -150,8 +181,6 @@ pub(crate) fn check_store<I: Source, K: Sink>(
         × AppendsFront (K.held out.old) (K.held out.new) text)
         ⊎ Keeps (K.held out.old) (K.held out.new)) }
     ensures nothing { IsUnwritten result → Keeps (K.held out.old) (K.held out.new) }
-    ensures early { result ≡ Status.OpenFault → ⊥ }
-    ensures unread { result ≡ Status.ReadFault Which.Map → ⊥ }
     ensures read { result ≡ Status.ReadFault Which.Script →
         Rose (I.faults store.old) (I.faults store.new) }
     ensures cause { result ≡ Status.WriteFault → Rose (K.faults out.old) (K.faults out.new) }
@@ -159,11 +188,9 @@ pub(crate) fn check_store<I: Source, K: Sink>(
     let Ok(ground) = car_ground(alloc, roads) else {
         return Status::NoMemory;
     };
-    let prep = match read_prep(alloc, &ground, store) {
+    let prep = match read_store(alloc, &ground, store) {
         Ok(prep) => prep,
-        Err(PrepFault::ReadFault) => return Status::ReadFault(Which::Script),
-        Err(PrepFault::NoMemory) => return Status::NoMemory,
-        Err(fault) => return Status::BadPrep(fault),
+        Err(status) => return status,
     };
     match tell(alloc, &prep, out) {
         Ok(()) => Status::Done,

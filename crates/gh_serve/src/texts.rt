@@ -1,6 +1,6 @@
 //! What a user reads where a run didn't end well.
 ghost use Rattle.std.specs.Prelude.{◌≡◌, ◌++◌, IfOk, OnOk};
-ghost use Rattle.gh_serve.specs.Texts.{plain_word, pbf_word, pbf_more, script_word, quantity_word, place_text, import_word, import_more, prep_word, missing_text, map_text, fault_text_of};
+ghost use Rattle.gh_serve.specs.Texts.{plain_word, pbf_word, pbf_more, script_word, quantity_word, place_text, import_word, import_more, prep_text, prep_word, missing_text, map_text, fault_text_of};
 
 use crate::status::{MapFault, Quantity, Status, Which};
 use gh_base::{NoMemory, PbfKind, PlainKind, ScriptKind, Text};
@@ -177,6 +177,13 @@ fn prep_word_of(fault: &PrepFault) -> &'static str
     }
 }
 
+fn put_prep_fault(text: &mut Text, fault: &PrepFault) -> Result<(), NoMemory>
+    ensures { OnOk result (text.new ≡ text.old ++ prep_text fault.now) }
+{
+    text.push("preparation: ")?;
+    text.push(prep_word_of(fault))
+}
+
 fn put_fault(text: &mut Text, status: &Status) -> Result<(), NoMemory>
     ensures { OnOk result (text.new ≡ text.old ++ fault_text_of status.now) }
 {
@@ -204,8 +211,8 @@ fn put_fault(text: &mut Text, status: &Status) -> Result<(), NoMemory>
         }
         Status::NoLandmark => text.push("gh: no landmark"),
         Status::BadPrep(fault) => {
-            text.push("gh: preparation: ")?;
-            text.push(prep_word_of(fault))
+            text.push("gh: ")?;
+            put_prep_fault(text, fault)
         }
     }
 }

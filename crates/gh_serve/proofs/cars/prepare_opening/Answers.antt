@@ -2,7 +2,7 @@ use Rattle.std.proofs.Common.{[], subst}
 use Rattle.landmark_prep.specs.Answers.{IfPrep, IsNoLandmark}
 use Rattle.traffic_core.specs.Lands.{Land}
 use Rattle.traffic_core.specs.Truth.{IsPrepAt, IsNoPrepAt}
-use Rattle.gh_serve.proofs.Cars.{true_made}
+use Rattle.gh_serve.proofs.CarRoads.{true_made}
 use Rattle.gh_serve.proofs.cars.prepare_opening.Goals as goal
 
 pub prepare_at-requires-clause-stands : goal.prepare_at-requires-clause-stands

@@ -1,4 +1,4 @@
-use Rattle.gh_serve.proofs.Cars.{checked_behind, checked_front, checked_part, store_says}
+use Rattle.gh_serve.proofs.CarRoads.{checked_behind, checked_front, checked_part, store_says}
 use Rattle.gh_serve.proofs.commands.check_map.Goals as goal
 
 pub returns-clause-done : goal.returns-clause-done

@@ -1,4 +1,4 @@
-use Rattle.gh_serve.proofs.Cars.{stored_behind, front_behind, part_behind, prep_says}
+use Rattle.gh_serve.proofs.CarRoads.{stored_behind, front_behind, part_behind, prep_says}
 use Rattle.gh_serve.proofs.commands.prep_map.Goals as goal
 
 pub returns-clause-done : goal.returns-clause-done

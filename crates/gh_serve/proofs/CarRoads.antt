@@ -1,5 +1,5 @@
 -- Facts of the roads of cars, where the map's bytes are told; and that nothing but want of memory keeps a preparation and a check from their ends.
-use Rattle.std.proofs.Common.{◌≡◌, refl, sym, subst, ap, ◌∙◌, ℕ, ◌*◌, ◌<◌, ◌≤◌, [], List, Option, Some, None, inl, inr, ◌⊎◌, arith}
+use Rattle.std.proofs.Common.{◌≡◌, true, refl, sym, subst, ap, ◌∙◌, ℕ, ◌*◌, ◌<◌, ◌≤◌, [], List, Option, Some, None, inl, inr, ◌⊎◌, arith}
 use Rattle.std.specs.Prelude.{IfSome, length, ◌+◌}
 use Rattle.std.specs.Io.KnownBytes.{Appends, Keeps}
 use Rattle.gh_base.specs.Causes.{Rose, AppendsFront}
@@ -13,11 +13,16 @@ use Rattle.landmark_prep.specs.Laws.{LandmarksAreTheCount}
 use Rattle.traffic_core.specs.Lands.{Land}
 use Rattle.traffic_core.specs.Truth.{IsPrepAt, IsTrueOver}
 use Rattle.traffic_share.proofs.PreparationsAfter.{true_after}
+use Rattle.landmark_prep.specs.Preparations.{Preparation}
+use Rattle.prep_store.specs.Stores.{IsStored}
+use Rattle.prep_store.specs.FirstFaults.{is_of_bytes, IsFirstFault}
+use Rattle.prep_store.specs.declared.fault.PrepFault.{PrepFault}
+use Rattle.prep_store.specs.declared.fault.PrepFault.TheVariants as fault
 use Rattle.prep_store.specs.Laws.{StoredHasNoFault}
 use Rattle.gh_serve.specs.Labels.{size_of}
 use Rattle.gh_serve.specs.Serving.{AreRoadsRead}
-use Rattle.gh_serve.specs.Statuses.{IsShortMap, IsMap, IsOfPrep, IsOfCheck, MapSays, IsCalm, IsDoneOrNoMemory}
-use Rattle.gh_serve.specs.Preps.{car_land, OfCars, Stores, StoresFront, Preps, PrepsFront, PrepsPart, AsksPrep, AreFewOfPrep, AreManyOfPrep, PrepSays, PrepSaysOf, IsChecked, StoreSays, StoreSaysOf, IsStoreRead, Checks, ChecksFront, ChecksPart}
+use Rattle.gh_serve.specs.Statuses.{IsShortMap, IsMap, IsOfPrep, IsOfCheck, IsOfStore, status_of_store, MapSays, IsCalm, IsDoneOrNoMemory}
+use Rattle.gh_serve.specs.Preps.{car_land, OfCars, Stores, StoresFront, Preps, PrepsFront, PrepsPart, AsksPrep, AreFewOfPrep, AreManyOfPrep, PrepSays, PrepSaysOf, IsChecked, StoreSays, StoreSaysOf, IsStoreRead, Checks, ChecksFront, ChecksPart, checked_text}
 use Rattle.gh_serve.proofs.Complete.{one_map, no_fault}
 use Rattle.gh_serve.specs.declared.status.Status.{Status}
 use Rattle.gh_serve.specs.declared.status.Status.TheVariants as status
@@ -192,3 +197,78 @@ checks_complete law s form (Some held) (Some bytes) b c t u i j k l of map_says 
 pub true_made : (made : Made) (land : Land) (count : ℕ) → LandmarksAreTheCount → 0 < length land.profiles → IfPrep made (λ prep. IsPrepAt land [] 0 count prep) → IfPrep made (λ prep. IsTrueOver land prep)
 true_made (Prep prep) land count counted there at = true_after land [] 0 count prep counted there at
 true_made NoLandmark land count counted there at = tt
+
+any : (left : Option (List ℕ)) → IfSome left (λ bytes. Unit {0})
+any None = tt
+any (Some bytes) = tt
+
+-- what a fault of a store comes to
+module _ (left : Option (List ℕ)) (land : Land) where
+  pub said_of_store : (f : PrepFault) → (is_of_bytes f ≡ true → IfSome left (λ bytes. IsFirstFault land bytes f)) → IfSome left (StoreSaysOf (status_of_store f) land)
+  said_of_store fault.ReadFault first = any left
+  said_of_store fault.NoMemory first = any left
+  said_of_store (fault.Short byte) first = first refl
+  said_of_store fault.Magic first = first refl
+  said_of_store (fault.Profile profile) first = first refl
+  said_of_store (fault.Sizes towers edges) first = first refl
+  said_of_store (fault.Count count) first = first refl
+  said_of_store (fault.Landmarks place) first = first refl
+  said_of_store (fault.Grain grain) first = first refl
+  said_of_store (fault.Order landmark back place) first = first refl
+  said_of_store (fault.Open landmark back edge) first = first refl
+  said_of_store fault.After first = first refl
+
+pub of_store : (f : PrepFault) → IsOfStore (status_of_store f)
+of_store fault.ReadFault = tt
+of_store fault.NoMemory = tt
+of_store (fault.Short byte) = tt
+of_store fault.Magic = tt
+of_store (fault.Profile profile) = tt
+of_store (fault.Sizes towers edges) = tt
+of_store (fault.Count count) = tt
+of_store (fault.Landmarks place) = tt
+of_store (fault.Grain grain) = tt
+of_store (fault.Order landmark back place) = tt
+of_store (fault.Open landmark back edge) = tt
+of_store fault.After = tt
+
+-- only a fault of reading comes to one
+pub read_of_store : (f : PrepFault) (b c : ℕ) → (f ≡ fault.ReadFault → Rose b c) → status_of_store f ≡ status.ReadFault which.Script → Rose b c
+read_of_store fault.ReadFault b c rose e = rose refl
+read_of_store fault.NoMemory b c rose e = cc
+read_of_store (fault.Short byte) b c rose e = cc
+read_of_store fault.Magic b c rose e = cc
+read_of_store (fault.Profile profile) b c rose e = cc
+read_of_store (fault.Sizes towers edges) b c rose e = cc
+read_of_store (fault.Count count) b c rose e = cc
+read_of_store (fault.Landmarks place) b c rose e = cc
+read_of_store (fault.Grain grain) b c rose e = cc
+read_of_store (fault.Order landmark back place) b c rose e = cc
+read_of_store (fault.Open landmark back edge) b c rose e = cc
+read_of_store fault.After b c rose e = cc
+
+-- a preparation whose store was read, and what is told of it
+module _ (land cars : Land) (same : land ≡ cars) (prep : Preparation) where
+  is_checked : (bytes : List ℕ) → IsStored land prep bytes → IsChecked bytes (checked_text prep) cars
+  is_checked bytes stored = record { prep = prep; stored = subst (λ (l : Land). IsStored l prep bytes) same stored; text_is = refl }
+
+  pub told_of : (left old new : Option (List ℕ)) → IfSome left (IsStored land prep) → Appends old new (checked_text prep)
+      → IfSome left (λ bytes. (text : List ℕ) × IsChecked bytes text cars × Appends old new text)
+  told_of None old new stored written = tt
+  told_of (Some bytes) old new stored written = (checked_text prep, is_checked bytes stored, written)
+
+  pub front_of_told : (left old new : Option (List ℕ)) → IfSome left (IsStored land prep) → AppendsFront old new (checked_text prep)
+      → IfSome left (λ bytes. (text : List ℕ) × IsChecked bytes text cars × AppendsFront old new text)
+  front_of_told None old new stored written = tt
+  front_of_told (Some bytes) old new stored written = (checked_text prep, is_checked bytes stored, written)
+
+  pub part_of_told : (left old new : Option (List ℕ)) → IfSome left (IsStored land prep) → AppendsFront old new (checked_text prep)
+      → IfSome left (λ bytes. ((text : List ℕ) × IsChecked bytes text cars × AppendsFront old new text) ⊎ Keeps old new)
+  part_of_told None old new stored written = tt
+  part_of_told (Some bytes) old new stored written = inl (checked_text prep, is_checked bytes stored, written)
+
+-- nothing is told
+pub kept_of_told : (cars : Land) (left old new : Option (List ℕ)) → Keeps old new
+    → IfSome left (λ bytes. ((text : List ℕ) × IsChecked bytes text cars × AppendsFront old new text) ⊎ Keeps old new)
+kept_of_told cars None old new keeps = tt
+kept_of_told cars (Some bytes) old new keeps = inr keeps
