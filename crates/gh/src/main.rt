@@ -38,6 +38,8 @@ const fn number_of(status: &Status) -> u8 {
         Status::BadMap(_) => 7,
         Status::BadScript { .. } => 8,
         Status::TooLarge { .. } => 9,
+        Status::BadPrep(_) => 11,
+        Status::NoLandmark => 12,
     }
 }
 

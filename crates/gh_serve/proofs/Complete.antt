@@ -19,12 +19,12 @@ use Rattle.script_text.specs.declared.fault.ScriptFault.TheVariants as script_fa
 use Rattle.script_text.specs.Grammar.{script_of}
 
 -- the bytes are one map
-one_map : (form : Form) (held : List ℕ) (m n : OsmMap) → ReadsAs form held m → ReadsAs form held n → m ≡ n
+pub one_map : (form : Form) (held : List ℕ) (m n : OsmMap) → ReadsAs form held m → ReadsAs form held n → m ≡ n
 one_map forms.Plain held m n a b = cc
 one_map forms.Pbf held m n a b = cc
 
 -- a map that has roads has no fault
-no_fault : (f : MapFault) (form : Form) (held : List ℕ) → IsMap form held → IsFaultOf f form held → ⊥
+pub no_fault : (f : MapFault) (form : Form) (held : List ℕ) → IsMap form held → IsFaultOf f form held → ⊥
 no_fault (fault.Plain line byte kind) forms.Plain held is b = let a = is.reads_as in cc
 no_fault (fault.Plain line byte kind) forms.Pbf held is b = b
 no_fault (fault.Pbf byte kind) forms.Plain held is b = b
@@ -80,6 +80,8 @@ serves_to_the_end (status.TooLarge quantity.Labels limit) form held bytes of map
     absurd (few_or_many form held bytes few labels_say.1)
 serves_to_the_end status.Usage form held bytes of map_says script_says labels_say is_map is_script few no_open no_map no_script no_write = absurd of
 serves_to_the_end (status.TooLarge quantity.Way limit) form held bytes of map_says script_says labels_say is_map is_script few no_open no_map no_script no_write = absurd of
+serves_to_the_end status.NoLandmark form held bytes of map_says script_says labels_say is_map is_script few no_open no_map no_script no_write = absurd of
+serves_to_the_end (status.BadPrep fault) form held bytes of map_says script_says labels_say is_map is_script few no_open no_map no_script no_write = absurd of
 
 -- nor of what a conversion ends with
 pub converts_to_the_end : (s : Status) (form to : Form) (held : List ℕ) → IsOfConversion s → ConversionSays s form to held → IsConvertible form to held →
@@ -95,6 +97,8 @@ converts_to_the_end (status.TooLarge quantity.Map limit) form to held of says is
 converts_to_the_end (status.TooLarge quantity.Way limit) form to held of says is no_open no_map no_write =
     absurd (let large = says.1 in large.unfit (rw (one_map form held large.map is.map large.reads_as is.reads_as) is.fits_in))
 converts_to_the_end status.Usage form to held of says is no_open no_map no_write = absurd of
+converts_to_the_end status.NoLandmark form to held of says is no_open no_map no_write = absurd of
+converts_to_the_end (status.BadPrep fault) form to held of says is no_open no_map no_write = absurd of
 converts_to_the_end (status.ReadFault which.Script) form to held of says is no_open no_map no_write = absurd of
 converts_to_the_end (status.BadScript line byte kind) form to held of says is no_open no_map no_write = absurd of
 converts_to_the_end (status.BadMap (fault.Import refusal)) form to held of says is no_open no_map no_write = absurd of
@@ -119,6 +123,8 @@ tells_to_the_end (status.BadScript line byte kind) form held of says is no_open 
 tells_to_the_end (status.TooLarge quantity.Script limit) form held of says is no_open no_map no_write = absurd of
 tells_to_the_end (status.TooLarge quantity.Labels limit) form held of says is no_open no_map no_write = absurd of
 tells_to_the_end (status.TooLarge quantity.Way limit) form held of says is no_open no_map no_write = absurd of
+tells_to_the_end status.NoLandmark form held of says is no_open no_map no_write = absurd of
+tells_to_the_end (status.BadPrep fault) form held of says is no_open no_map no_write = absurd of
 
 -- with the bytes where they are told, and the counts
 pub serves_complete : (s : Status) (form : Form) (holds left : Option (List ℕ)) (b c t u i j k l : ℕ) → IsOfService s → IfSome holds (MapSays s form) → IfSome left (ScriptSays s) →

@@ -3,3 +3,5 @@ pub mod Unwritten
 pub mod Asked
 pub mod Complete
 pub mod LinesBehind
+pub mod CarRoads
+pub mod Pushed

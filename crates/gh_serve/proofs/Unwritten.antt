@@ -13,3 +13,5 @@ never_unwritten (status.ReadFault what) of unwritten = of
 never_unwritten (status.BadMap fault) of unwritten = of
 never_unwritten (status.BadScript line byte kind) of unwritten = of
 never_unwritten (status.TooLarge what limit) of unwritten = of
+never_unwritten status.NoLandmark of unwritten = of
+never_unwritten (status.BadPrep fault) of unwritten = of

@@ -5,3 +5,4 @@ pub mod Runs
 pub mod Serving
 pub mod Statuses
 pub mod Texts
+pub mod Preps

@@ -1,7 +1,7 @@
 -- What the words of a run ask for, and facts of what is known of it.
 use Rattle.std.specs.Prelude.{ℕ, List, Option, Some, IfSome}
 use Rattle.gh_base.specs.declared.kinds.Form.{Form}
-use Rattle.gh_words.specs.Words.{Asked, Serve, Convert, Generate, Roads}
+use Rattle.gh_words.specs.Words.{Asked, Serve, Convert, Generate, Roads, Prep, Check}
 use Rattle.gh_serve.specs.Statuses.{IsMap, IsScriptText, AreFewLabels}
 
 -- a fact of the map's name and form, if the words ask for a map to be served
@@ -19,11 +19,23 @@ abbrev pub IfTellsRoads : Option Asked → (List ℕ → Form → Type 0) → Ty
 IfTellsRoads (Some (Roads name form)) P = P name form
 IfTellsRoads other P = Unit {0}
 
+-- a fact of the map's name and form and of the number of landmarks, if they ask for a preparation
+abbrev pub IfPreps : Option Asked → (List ℕ → Form → ℕ → Type 0) → Type 0
+IfPreps (Some (Prep name form count)) P = P name form count
+IfPreps other P = Unit {0}
+
+-- a fact of the map's name and form, if they ask for one to be checked
+abbrev pub IfChecks : Option Asked → (List ℕ → Form → Type 0) → Type 0
+IfChecks (Some (Check name form)) P = P name form
+IfChecks other P = Unit {0}
+
 -- a fact of the map's name, if they ask for any of these
 abbrev pub IfReads : Option Asked → (List ℕ → Type 0) → Type 0
 IfReads (Some (Serve name form)) P = P name
 IfReads (Some (Convert name form to)) P = P name
 IfReads (Some (Roads name form)) P = P name
+IfReads (Some (Prep name form count)) P = P name
+IfReads (Some (Check name form)) P = P name
 IfReads other P = Unit {0}
 
 -- a fact of the size, if they ask for a run made of one
@@ -50,6 +62,18 @@ IfMapConverted asked holds P = IfConverts asked (λ name form to. IfSome (holds 
 -- alike where its roads are to be told
 abbrev pub IfRoadsTold : Option Asked → (List ℕ → Option (List ℕ)) → (List ℕ → Form → List ℕ → Type 0) → Type 0
 IfRoadsTold asked holds P = IfTellsRoads asked (λ name form. IfSome (holds name) (P name form))
+
+-- alike where it is to be prepared
+abbrev pub IfMapPrepared : Option Asked → (List ℕ → Option (List ℕ)) → (List ℕ → Form → ℕ → List ℕ → Type 0) → Type 0
+IfMapPrepared asked holds P = IfPreps asked (λ name form count. IfSome (holds name) (P name form count))
+
+-- alike where a store is to be checked over it
+abbrev pub IfMapChecked : Option Asked → (List ℕ → Option (List ℕ)) → (List ℕ → Form → List ℕ → Type 0) → Type 0
+IfMapChecked asked holds P = IfChecks asked (λ name form. IfSome (holds name) (P name form))
+
+-- and of the store's bytes, where these are known too
+abbrev pub IfStoreChecked : Option Asked → (List ℕ → Option (List ℕ)) → Option (List ℕ) → (List ℕ → Form → List ℕ → List ℕ → Type 0) → Type 0
+IfStoreChecked asked holds left P = IfMapChecked asked holds (λ name form held. IfSome left (P name form held))
 
 -- map and script are right, and ask for no more labels than a run takes
 pub record IsServable (form : Form) (map_bytes script_bytes : List ℕ) : Type 0 where

@@ -11,10 +11,12 @@ use Rattle.pbf_wire.specs.Files as pbf
 use Rattle.pbf_reader.specs.declared.fault.PbfFault.{PbfFault}
 use Rattle.pbf_reader.specs.declared.fault.PbfFault.TheVariants as pbf_fault
 use Rattle.map_import.specs.Refusals.{Laid, roads}
+use Rattle.prep_store.specs.declared.fault.PrepFault.{PrepFault}
+use Rattle.prep_store.specs.declared.fault.PrepFault.TheVariants as prep_fault
 use Rattle.script_text.specs.declared.script.ScriptRead.{ScriptRead}
 use Rattle.script_text.specs.declared.fault.ScriptFault.TheVariants as script_fault
 use Rattle.script_text.specs.Grammar.{script_of}
-use Rattle.gh_words.specs.Words.{Asked, Serve, Convert, Generate, Roads}
+use Rattle.gh_words.specs.Words.{Asked, Serve, Convert, Generate, Roads, Prep, Check}
 use Rattle.gh_serve.specs.Labels.{labels_asked}
 use Rattle.gh_serve.specs.declared.status.MapFault.{MapFault}
 use Rattle.gh_serve.specs.declared.status.MapFault.TheVariants as fault
@@ -92,6 +94,8 @@ MapSays (status.ReadFault which.Script) form held = IsMap form held
 MapSays status.WriteFault form held = IsMap form held
 MapSays (status.BadMap fault) form held = IsShortMap held × IsFaultOf fault form held
 MapSays (status.BadScript line byte kind) form held = IsMap form held
+MapSays status.NoLandmark form held = IsMap form held
+MapSays (status.BadPrep fault) form held = IsMap form held
 MapSays (status.TooLarge quantity.Map limit) form held = (limit ≡ 268435456) × (limit < length held)
 MapSays (status.TooLarge what limit) form held = IsMap form held
 
@@ -122,6 +126,8 @@ CountSays status labels = Unit {0}
 abbrev pub IsOfService : Status → Type 0
 IsOfService status.Usage = ⊥
 IsOfService (status.TooLarge quantity.Way limit) = ⊥
+IsOfService status.NoLandmark = ⊥
+IsOfService (status.BadPrep fault) = ⊥
 IsOfService status = Unit {0}
 
 -- those that a conversion ends with, which reads no script and imports nothing
@@ -185,6 +191,42 @@ IsOfRoads status.Done = Unit {0}
 IsOfRoads status.WriteFault = Unit {0}
 IsOfRoads status = IsOfMap status
 
+-- those that preparing roads gives, which reads no script
+abbrev pub IsOfPrep : Status → Type 0
+IsOfPrep (status.TooLarge quantity.Labels limit) = Unit {0}
+IsOfPrep status.NoLandmark = Unit {0}
+IsOfPrep status = IsOfRoads status
+
+-- those that checking a store gives, which is read in the script's place
+abbrev pub IsOfCheck : Status → Type 0
+IsOfCheck (status.ReadFault which.Script) = Unit {0}
+IsOfCheck (status.BadPrep fault) = Unit {0}
+IsOfCheck status = IsOfRoads status
+
+-- those that come of them once the map is read
+abbrev pub IsOfPreparing : Status → Type 0
+IsOfPreparing (status.TooLarge quantity.Labels limit) = Unit {0}
+IsOfPreparing status.NoLandmark = Unit {0}
+IsOfPreparing status = IsOfRun status
+
+abbrev pub IsOfChecking : Status → Type 0
+IsOfChecking (status.ReadFault which.Script) = Unit {0}
+IsOfChecking (status.BadPrep fault) = Unit {0}
+IsOfChecking status = IsOfRun status
+
+-- those that reading a store gives
+abbrev pub IsOfStore : Status → Type 0
+IsOfStore status.NoMemory = Unit {0}
+IsOfStore (status.ReadFault which.Script) = Unit {0}
+IsOfStore (status.BadPrep fault) = Unit {0}
+IsOfStore status = ⊥
+
+-- the status that a reading of a store ends with
+abbrev pub status_of_store : PrepFault → Status
+status_of_store prep_fault.ReadFault = status.ReadFault which.Script
+status_of_store prep_fault.NoMemory = status.NoMemory
+status_of_store fault = status.BadPrep fault
+
 -- the statuses of what the words ask for
 abbrev pub IsStatusOf : Option Asked → Status → Type 0
 IsStatusOf None said = (said ≡ status.Usage) ⊎ (said ≡ status.NoMemory)
@@ -192,6 +234,8 @@ IsStatusOf (Some (Serve name form)) status = IsOfService status
 IsStatusOf (Some (Convert name form to)) status = IsOfConversion status
 IsStatusOf (Some (Generate size)) status = IsOfRun status
 IsStatusOf (Some (Roads name form)) status = IsOfRoads status
+IsStatusOf (Some (Prep name form count)) status = IsOfPrep status
+IsStatusOf (Some (Check name form)) status = IsOfCheck status
 
 -- the statuses after which nothing stands behind the sink's old bytes
 abbrev pub IsUnwritten : Status → Type 0

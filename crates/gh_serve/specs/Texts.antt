@@ -9,6 +9,8 @@ use Rattle.gh_base.specs.declared.kinds.PbfKind.{PbfKind}
 use Rattle.gh_base.specs.declared.kinds.PbfKind.TheVariants as pbf
 use Rattle.gh_base.specs.declared.kinds.ScriptKind.{ScriptKind}
 use Rattle.gh_base.specs.declared.kinds.ScriptKind.TheVariants as script
+use Rattle.prep_store.specs.declared.fault.PrepFault.{PrepFault}
+use Rattle.prep_store.specs.declared.fault.PrepFault.TheVariants as prep
 use Rattle.gh_serve.specs.declared.status.Status.{Status}
 use Rattle.gh_serve.specs.declared.status.Status.TheVariants as status
 use Rattle.gh_serve.specs.declared.status.Which.TheVariants as which
@@ -99,6 +101,23 @@ map_text (fault.Plain line byte kind) = place_text (codes "map") line byte (plai
 map_text (fault.Pbf byte kind) = codes "map byte " ++ decimal byte ++ codes ": " ++ pbf_word kind ++ pbf_more kind
 map_text (fault.Import refusal) = codes "map: " ++ import_word refusal ++ import_more refusal
 
+abbrev pub prep_word : PrepFault → List ℕ
+prep_word prep.ReadFault = codes "ReadFault"
+prep_word prep.NoMemory = codes "NoMemory"
+prep_word (prep.Short byte) = codes "Short"
+prep_word prep.Magic = codes "Magic"
+prep_word (prep.Profile profile) = codes "Profile"
+prep_word (prep.Sizes towers edges) = codes "Sizes"
+prep_word (prep.Count count) = codes "Count"
+prep_word (prep.Landmarks place) = codes "Landmarks"
+prep_word (prep.Grain grain) = codes "Grain"
+prep_word (prep.Order landmark back place) = codes "Order"
+prep_word (prep.Open landmark back edge) = codes "Open"
+prep_word prep.After = codes "After"
+
+abbrev pub prep_text : PrepFault → List ℕ
+prep_text fault = codes "preparation: " ++ prep_word fault
+
 -- the line that says why a run ended so
 abbrev pub fault_text_of : Status → List ℕ
 fault_text_of status.Done = []
@@ -111,3 +130,5 @@ fault_text_of status.WriteFault = codes "gh: cannot write"
 fault_text_of (status.BadMap fault) = codes "gh: " ++ map_text fault
 fault_text_of (status.BadScript line byte kind) = codes "gh: " ++ place_text (codes "script") line byte (script_word kind)
 fault_text_of (status.TooLarge what limit) = codes "gh: " ++ quantity_word what ++ codes " over " ++ decimal limit
+fault_text_of status.NoLandmark = codes "gh: no landmark"
+fault_text_of (status.BadPrep fault) = codes "gh: " ++ prep_text fault

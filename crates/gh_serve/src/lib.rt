@@ -5,6 +5,7 @@
 //! and says what was written (`specs/Statuses.antt`). Stands on the readers of maps and scripts, on import, and on `script_service`.
 #![tactic(auto)]
 
+mod cars;
 mod commands;
 mod conversion;
 mod generating;

@@ -1,6 +1,7 @@
 //! How a run ends.
 use gh_base::{PbfKind, PlainKind, ScriptKind};
 use map_import::ImportFault;
+use prep_store::PrepFault;
 
 /// What was being read.
 #[derive(Clone, Copy, Debug, PartialEq, Eq)]
@@ -16,7 +17,7 @@ pub enum Quantity {
     Map,
     /// The bytes of a script, at most 16777216.
     Script,
-    /// The landmark labels that a script asks for.
+    /// The landmark labels that are asked for.
     Labels,
     /// The bytes of one way in a PBF file.
     Way,
@@ -60,6 +61,10 @@ pub enum Status {
         what: Quantity,
         limit: u64,
     },
+    /// No road can be used, so there is nowhere to place a landmark.
+    NoLandmark,
+    /// What was read is no preparation of the map's roads, at its first fault.
+    BadPrep(PrepFault),
 }
 
 impl From<gh_base::NoMemory> for Status {

@@ -1,10 +1,11 @@
 //! What a user reads where a run didn't end well.
 ghost use Rattle.std.specs.Prelude.{◌≡◌, ◌++◌, IfOk, OnOk};
-ghost use Rattle.gh_serve.specs.Texts.{plain_word, pbf_word, pbf_more, script_word, quantity_word, place_text, import_word, import_more, missing_text, map_text, fault_text_of};
+ghost use Rattle.gh_serve.specs.Texts.{plain_word, pbf_word, pbf_more, script_word, quantity_word, place_text, import_word, import_more, prep_text, prep_word, missing_text, map_text, fault_text_of};
 
 use crate::status::{MapFault, Quantity, Status, Which};
 use gh_base::{NoMemory, PbfKind, PlainKind, ScriptKind, Text};
 use map_import::ImportFault;
+use prep_store::PrepFault;
 use std::alloc::Global;
 
 fn plain_word_of(kind: PlainKind) -> &'static str
@@ -156,6 +157,33 @@ fn put_map_fault(text: &mut Text, fault: &MapFault) -> Result<(), NoMemory>
     }
 }
 
+/// The word of a fault of a stored preparation.
+fn prep_word_of(fault: &PrepFault) -> &'static str
+    ensures { result.now ≡ prep_word fault.now }
+{
+    match fault {
+        PrepFault::ReadFault => "ReadFault",
+        PrepFault::NoMemory => "NoMemory",
+        PrepFault::Short { .. } => "Short",
+        PrepFault::Magic => "Magic",
+        PrepFault::Profile { .. } => "Profile",
+        PrepFault::Sizes { .. } => "Sizes",
+        PrepFault::Count { .. } => "Count",
+        PrepFault::Landmarks { .. } => "Landmarks",
+        PrepFault::Grain { .. } => "Grain",
+        PrepFault::Order { .. } => "Order",
+        PrepFault::Open { .. } => "Open",
+        PrepFault::After => "After",
+    }
+}
+
+fn put_prep_fault(text: &mut Text, fault: &PrepFault) -> Result<(), NoMemory>
+    ensures { OnOk result (text.new ≡ text.old ++ prep_text fault.now) }
+{
+    text.push("preparation: ")?;
+    text.push(prep_word_of(fault))
+}
+
 fn put_fault(text: &mut Text, status: &Status) -> Result<(), NoMemory>
     ensures { OnOk result (text.new ≡ text.old ++ fault_text_of status.now) }
 {
@@ -180,6 +208,11 @@ fn put_fault(text: &mut Text, status: &Status) -> Result<(), NoMemory>
             text.push(quantity_word_of(*what))?;
             text.push(" over ")?;
             text.push_number(u128::from(*limit))
+        }
+        Status::NoLandmark => text.push("gh: no landmark"),
+        Status::BadPrep(fault) => {
+            text.push("gh: ")?;
+            put_prep_fault(text, fault)
         }
     }
 }

@@ -1,17 +1,18 @@
 //! The top call.
-ghost use Rattle.std.specs.Prelude.{◌≡◌, None};
+ghost use Rattle.std.specs.Prelude.{◌≡◌, ◌⊎◌, None};
 ghost use Rattle.std.specs.Io.KnownBytes.{Keeps};
 ghost use Rattle.gh_base.specs.Causes.{Rose};
 ghost use Rattle.generated_run.specs.Generating.{Generates, GeneratesFront};
 ghost use Rattle.gh_words.specs.Words.{asks};
-ghost use Rattle.gh_serve.specs.Runs.{IfReads, IfGenerates, IfMapServed, IfScriptServed, IfBothServed, IfMapConverted, IfRoadsTold, IsServable};
+ghost use Rattle.gh_serve.specs.Runs.{IfReads, IfGenerates, IfMapServed, IfScriptServed, IfBothServed, IfMapConverted, IfRoadsTold, IfMapPrepared, IfMapChecked, IfStoreChecked, IsServable};
 ghost use Rattle.gh_serve.specs.Roads.{WritesRoads, WritesRoadsFront, WritesRoadsPart};
 ghost use Rattle.gh_serve.specs.Statuses.{IsMap, MapSays, ScriptSays, LabelsSay, IsStatusOf, IsSilent, IsCalm, IsDoneOrNoMemory};
 ghost use Rattle.gh_serve.specs.declared.status.Which.TheVariants as which;
 ghost use Rattle.gh_serve.specs.Serving.{Serves, ServesFront, ServesPart};
+ghost use Rattle.gh_serve.specs.Preps.{Preps, PrepsFront, PrepsPart, PrepSays, AreFewOfPrep, Checks, ChecksFront, ChecksPart, StoreSays, IsStoreRead};
 ghost use Rattle.gh_serve.specs.Converting.{Converts, ConvertsFront, ConvertsPart, ConversionSays, IsConvertible};
 
-use crate::commands::{convert_map, roads_map, serve_map};
+use crate::commands::{check_map, convert_map, prep_map, roads_map, serve_map};
 use crate::generating::generate;
 use crate::status::Status;
 use gh_base::{Files, Gate, Sink, Source};
@@ -21,7 +22,8 @@ use std::thread::Threads;
 
 /// Does what the words after the program's name ask for: reads the map of that name, and either
 /// answers the script over its roads and writes the replies and the journal, or writes the map in
-/// another form, or a line for each edge of its roads; or answers a script made of a size over
+/// another form, or a line for each edge of its roads, or a preparation of them, or what a
+/// preparation is that is read in the script's place; or answers a script made of a size over
 /// roads made of it, and writes the summary.
 pub fn run<R: Threads + Sync, F: Files, I: Source, K: Sink, G: Gate>(
     rt: &R,
@@ -46,6 +48,16 @@ pub fn run<R: Threads + Sync, F: Files, I: Source, K: Sink, G: Gate>(
     ensures roads { result ≡ Status.Done →
         IfRoadsTold (asks words.now) (F.holds files.old)
         (λ _ form held. WritesRoads form held (K.held out.old) (K.held out.new)) }
+
+    // Or the store of a preparation of the map's roads.
+    ensures prepared { result ≡ Status.Done →
+        IfMapPrepared (asks words.now) (F.holds files.old)
+        (λ _ form count held. Preps form held count (K.held out.old) (K.held out.new)) }
+
+    // Or what such a store is that was read.
+    ensures checked { result ≡ Status.Done →
+        IfStoreChecked (asks words.now) (F.holds files.old) (I.left script.old)
+        (λ _ form held bytes. Checks form held bytes (K.held out.old) (K.held out.new)) }
 
     // Or the summary of a run made of a size.
     ensures generated { result ≡ Status.Done →
@@ -75,6 +87,13 @@ pub fn run<R: Threads + Sync, F: Files, I: Source, K: Sink, G: Gate>(
     ensures conversion { IfMapConverted (asks words.now) (F.holds files.old)
         (λ _. ConversionSays result) }
     ensures roads_map { IfRoadsTold (asks words.now) (F.holds files.old) (λ _. MapSays result) }
+    ensures prepared_map { IfMapPrepared (asks words.now) (F.holds files.old)
+        (λ _ form _. MapSays result form) }
+    ensures preparation { IfMapPrepared (asks words.now) (F.holds files.old)
+        (λ _ form count held. PrepSays result form held count) }
+    ensures checked_map { IfMapChecked (asks words.now) (F.holds files.old) (λ _. MapSays result) }
+    ensures store { IfStoreChecked (asks words.now) (F.holds files.old) (I.left script.old)
+        (λ _. StoreSays result) }
 
     // Where all bytes are right and no call of the outside failed, nothing but want of memory
     // keeps the run from its end.
@@ -96,6 +115,20 @@ pub fn run<R: Threads + Sync, F: Files, I: Source, K: Sink, G: Gate>(
         IsMap form held →
         IsCalm (F.failed_brings files.old mark) (F.failed_brings files.new mark) →
         IsCalm (F.failed_takes files.old mark) (F.failed_takes files.new mark) →
+        IsCalm (K.faults out.old) (K.faults out.new) → IsDoneOrNoMemory result) }
+    ensures prepared_complete { IfMapPrepared (asks words.now) (F.holds files.old)
+        (λ name form count held. let mark = F.mark_of files.old name in
+        IsMap form held → AreFewOfPrep form held count →
+        IsCalm (F.failed_brings files.old mark) (F.failed_brings files.new mark) →
+        IsCalm (F.failed_takes files.old mark) (F.failed_takes files.new mark) →
+        IsCalm (K.faults out.old) (K.faults out.new) →
+        IsDoneOrNoMemory result ⊎ (result ≡ Status.NoLandmark)) }
+    ensures checked_complete { IfStoreChecked (asks words.now) (F.holds files.old)
+        (I.left script.old) (λ name form held bytes. let mark = F.mark_of files.old name in
+        IsMap form held → IsStoreRead form held bytes →
+        IsCalm (F.failed_brings files.old mark) (F.failed_brings files.new mark) →
+        IsCalm (F.failed_takes files.old mark) (F.failed_takes files.new mark) →
+        IsCalm (I.faults script.old) (I.faults script.new) →
         IsCalm (K.faults out.old) (K.faults out.new) → IsDoneOrNoMemory result) }
     ensures generated_complete { IfGenerates (asks words.now) (λ _.
         IsCalm (K.faults out.old) (K.faults out.new) → IsDoneOrNoMemory result) }
@@ -120,6 +153,18 @@ pub fn run<R: Threads + Sync, F: Files, I: Source, K: Sink, G: Gate>(
     ensures roads_part { result ≡ Status.NoMemory →
         IfRoadsTold (asks words.now) (F.holds files.old)
         (λ _ form held. WritesRoadsPart form held (K.held out.old) (K.held out.new)) }
+    ensures prepared_front { result ≡ Status.WriteFault →
+        IfMapPrepared (asks words.now) (F.holds files.old)
+        (λ _ form count held. PrepsFront form held count (K.held out.old) (K.held out.new)) }
+    ensures prepared_part { result ≡ Status.NoMemory →
+        IfMapPrepared (asks words.now) (F.holds files.old)
+        (λ _ form count held. PrepsPart form held count (K.held out.old) (K.held out.new)) }
+    ensures checked_front { result ≡ Status.WriteFault →
+        IfStoreChecked (asks words.now) (F.holds files.old) (I.left script.old)
+        (λ _ form held bytes. ChecksFront form held bytes (K.held out.old) (K.held out.new)) }
+    ensures checked_part { result ≡ Status.NoMemory →
+        IfStoreChecked (asks words.now) (F.holds files.old) (I.left script.old)
+        (λ _ form held bytes. ChecksPart form held bytes (K.held out.old) (K.held out.new)) }
     ensures generated_front { result ≡ Status.WriteFault →
         IfGenerates (asks words.now)
         (λ size. GeneratesFront size (K.held out.old) (K.held out.new)) }
@@ -134,6 +179,10 @@ pub fn run<R: Threads + Sync, F: Files, I: Source, K: Sink, G: Gate>(
         ),
         Ok(Request::Convert { map, form, to }) => convert_map(alloc, files, map, form, to, out),
         Ok(Request::Roads { map, form }) => roads_map(alloc, files, map, form, out),
+        Ok(Request::Prep { map, form, count }) => {
+            prep_map(rt, alloc, files, map, form, count, out)
+        }
+        Ok(Request::Check { map, form }) => check_map(alloc, files, map, form, script, out),
         Ok(Request::Generate { size }) => generate(rt, alloc, size, out, gate),
         Err(WordsFault::Usage) => Status::Usage,
         Err(WordsFault::NoMemory) => Status::NoMemory,

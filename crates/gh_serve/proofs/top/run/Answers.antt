@@ -2,6 +2,7 @@ use Rattle.std.proofs.Common.{subst}
 use Rattle.gh_serve.proofs.top.run.Goals as goal
 use Rattle.gh_words.specs.Words.{IsInBounds}
 use Rattle.gh_serve.proofs.Complete.{serves_complete, converts_complete, tells_complete}
+use Rattle.gh_serve.proofs.CarRoads.{preps_complete, checks_complete}
 use Rattle.gh_serve.proofs.Unwritten.{never_unwritten}
 
 pub returns-in-Ok-Serve-clause-complete : goal.returns-in-Ok-Serve-clause-complete
@@ -25,3 +26,17 @@ generate-requires-clause-few g c = λ _ _. (subst IsInBounds c.in-Ok-Generate.fi
 pub returns-in-Ok-Generate-clause-nothing : goal.returns-in-Ok-Generate-clause-nothing
 returns-in-Ok-Generate-clause-nothing g c =
     rw c.in-Ok-Generate.ensures.request (λ unwritten. absurd (never_unwritten c.generate.result c.generate.ensures.statuses unwritten))
+
+pub prep_map-requires-clause-some : goal.prep_map-requires-clause-some
+prep_map-requires-clause-some g c = λ _ _. (subst IsInBounds c.in-Ok-Prep.field-0-is c.in-Ok-Prep.ensures.bounds).least
+
+pub prep_map-requires-clause-few : goal.prep_map-requires-clause-few
+prep_map-requires-clause-few g c = λ _ _. (subst IsInBounds c.in-Ok-Prep.field-0-is c.in-Ok-Prep.ensures.bounds).most
+
+pub returns-in-Ok-Prep-clause-prepared_complete : goal.returns-in-Ok-Prep-clause-prepared_complete
+returns-in-Ok-Prep-clause-prepared_complete g c =
+    rw (c.in-Ok-Prep.ensures.request, c.in-Ok-Prep.field-0-is) (preps_complete c.prep_map.result c.in-Ok-Prep.form c.in-Ok-Prep.count _ _ _ _ _ _ _ c.prep_map.ensures.statuses c.prep_map.ensures.map c.prep_map.ensures.says c.prep_map.ensures.open c.prep_map.ensures.read c.prep_map.ensures.write)
+
+pub returns-in-Ok-Check-clause-checked_complete : goal.returns-in-Ok-Check-clause-checked_complete
+returns-in-Ok-Check-clause-checked_complete g c =
+    rw (c.in-Ok-Check.ensures.request, c.in-Ok-Check.field-0-is) (checks_complete c.faults_are_of_no_store.ensures c.check_map.result c.in-Ok-Check.form _ _ _ _ _ _ _ _ _ _ c.check_map.ensures.statuses c.check_map.ensures.map c.check_map.ensures.store c.check_map.ensures.open c.check_map.ensures.read_map c.check_map.ensures.read_store c.check_map.ensures.write)

@@ -1,0 +1,54 @@
+-- Private: what loops over hops compute, and how a list is kept.
+use Rattle.std.specs.Prelude.{◌≡◌, ℕ, ◌+◌, ◌/◌, ◌<◌, ◌==◌, min, nat_lt, if◌then◌else◌, Bool, true, false, ◌&&◌, Option, Some, None, unwrap_or, List, [], ◌∷◌, length, All, slice_index}
+use Rattle.gh_base.specs.declared.edges.DirEdge.{DirEdge}
+use Rattle.gh_base.specs.declared.edges.Hop.{Hop}
+use Rattle.traffic_core.specs.History.{index_of}
+use Rattle.prep_store.specs.declared.item.Item.{Item}
+use Rattle.prep_store.specs.Evidence.{label_in, label_after, is_open}
+
+-- a list of items, of roads with so many nodes
+pub record Listed : Type 0 where
+  pub nodes : ℕ
+  pub items : List Item
+
+-- the number that stands for a node's label; 65535 is none
+abbrev pub number_in : List Item → ℕ → ℕ
+number_in items node = unwrap_or (label_in items node) 65535
+
+-- an item of one of so many nodes, whose label isn't that which stands for none
+pub record IsItem (nodes : ℕ) (item : Item) : Type 0 where
+  pub node : item.node.0 < nodes
+  pub label : item.label < 65535
+
+-- a number for each node by the items
+pub record IsRow (row : List ℕ) (items : List Item) : Type 0 where
+  pub each : (node : ℕ) → node < length row → slice_index row node ≡ number_in items node
+  pub are_items : All (IsItem (length row)) items
+
+-- whether a weight from a node with a label gives another label
+abbrev pub gives : ℕ → Option ℕ → Option ℕ → ℕ → Bool
+gives grain None weight label = false
+gives grain (Some tail) None label = false
+gives grain (Some tail) (Some weight) label = label == label_after grain tail weight
+
+-- whether a hop, turned round, gives a label from its head's
+abbrev pub gives_back : ℕ → List Item → ℕ → Hop → Bool
+gives_back grain items label hop = gives grain (label_in items hop.to.0) hop.weight label
+
+-- the lesser of two directed edges, of which there may be only the second
+abbrev pub lesser_edge : Option DirEdge → DirEdge → DirEdge
+lesser_edge None by = by
+lesser_edge (Some first) by = if nat_lt (index_of by) (index_of first) then by else first
+
+abbrev pub with_hop : Bool → Option DirEdge → DirEdge → Option DirEdge
+with_hop true first by = Some (lesser_edge first by)
+with_hop false first by = first
+
+-- the least directed edge of those so far and of the open hops that are left
+abbrev pub least_open : ℕ → List Item → ℕ → Option DirEdge → List Hop → Option DirEdge
+least_open grain items node first [] = first
+least_open grain items node first (hop ∷ hops) = least_open grain items node (with_hop (is_open grain items node hop) first hop.by) hops
+
+-- bytes, as numbers
+abbrev pub IsEachByte : List ℕ → Type 0
+IsEachByte xs = (k : ℕ) → slice_index xs k < 256
