@@ -1,1 +1,20 @@
-
+pub mod Lookups
+pub mod Attained
+pub mod Shown
+pub mod Rows
+pub mod Bytes
+pub mod Lefts
+pub mod Telling
+pub mod Faulting
+pub mod Follows
+pub mod Opens
+pub mod ListFaults
+pub mod Tables
+pub mod Wholes
+pub mod Candidates
+pub mod Underway
+pub mod Listings
+pub mod Whole
+pub mod Results
+pub mod Evident
+pub mod Again

@@ -10,6 +10,7 @@ use Rattle.traffic_core.specs.Lands.{Land}
 use Rattle.prep_store.specs.declared.fault.PrepFault.{PrepFault}
 use Rattle.prep_store.specs.declared.fault.PrepFault.TheVariants as faults
 use Rattle.prep_store.specs.declared.item.Item.{Item}
+use Rattle.prep_store.specs.declared.item.Which.{Which}
 use Rattle.prep_store.specs.Evidence.{MayFollow, MayAllFollow, IsEvidence, IsFirstOpen}
 use Rattle.prep_store.specs.Stores.{magic, words, item_text, items_text, list_text, Lists, lists_text, roads_at, back_at, HasHead, HasLimits, HasLandmarks, AreEvidence, IsStored}
 
@@ -97,27 +98,25 @@ abbrev pub IsRuleAt : Network → ℕ → ℕ → ℕ → Type 0
 IsRuleAt network count place node =
     (landmarks : List ℕ) × (grain : ℕ) × IsPlacing network count landmarks grain × (slice_get landmarks place ≡ Some node)
 
--- behind some landmarks that stand by the rule, one is cut, or is another than the rule's
-pub record FailsInLandmarks (network : Network) (count total : ℕ) (rest : List ℕ) (fault : PrepFault) : Type 0 where
+-- behind some landmarks that stand by a rule, one is cut, or is another than the rule's
+pub record FailsByRule (Rule : ℕ → ℕ → Type 0) (count total : ℕ) (rest : List ℕ) (fault : PrepFault) : Type 0 where
   pub right : List ℕ
   pub after : List ℕ
   pub bytes : rest ≡ words right ++ after
   pub fewer : length right < count
-  pub by_rule : (place node : ℕ) → slice_get right place ≡ Some node → IsRuleAt network count place node
+  pub by_rule : (place node : ℕ) → slice_get right place ≡ Some node → Rule place node
   pub fails : IsCut 4 total after fault
-      ⊎ ((node : ℕ) × (node < 2 ^ 32) × (IsRuleAt network count (length right) node → ⊥)
+      ⊎ ((node : ℕ) × (node < 2 ^ 32) × (Rule (length right) node → ⊥)
       × Behind (big_bytes 4 node) after (λ _. fault ≡ faults.Landmarks (length right)))
+
+abbrev pub FailsInLandmarks : Network → ℕ → ℕ → List ℕ → PrepFault → Type 0
+FailsInLandmarks network count total rest fault = FailsByRule (IsRuleAt network count) count total rest fault
 
 -- the grain is cut, or another
 abbrev pub FailsInGrain : ℕ → ℕ → List ℕ → PrepFault → Type 0
 FailsInGrain grain total rest fault =
     IsCut 8 total rest fault
     ⊎ ((other : ℕ) × (other < 2 ^ 64) × (other ≡ grain → ⊥) × Behind (big_bytes 8 other) rest (λ _. fault ≡ faults.Grain other))
-
--- which list of which landmark, by number
-pub record Which : Type 0 where
-  pub landmark : ℕ
-  pub back : Bool
 
 -- behind some items that may follow one another, one is cut, or may not follow
 pub record FailsInItems (network : Network) (grain landmark : ℕ) (which : Which) (count total : ℕ) (rest : List ℕ) (fault : PrepFault) : Type 0 where

@@ -9,9 +9,8 @@ use Rattle.traffic_core.specs.Lands.{Land}
 use Rattle.traffic_core.specs.Truth.{IsTrueOver}
 use Rattle.prep_store.specs.declared.item.Item.{Item}
 use Rattle.prep_store.specs.Evidence.{label_in, IsEvidence}
-use Rattle.prep_store.specs.declared.fault.PrepFault.{PrepFault}
 use Rattle.prep_store.specs.Stores.{IsStored}
-use Rattle.prep_store.specs.FirstFaults.{IsFirstFault}
+use Rattle.prep_store.specs.Writing.{FitsBytes, IsStoreOf}
 
 -- a list that is evidence tells the labels of the landmark: distances in whole grains, cut at 65534 of them, and none where there is no walk
 abbrev pub EvidenceTellsLabels : Type 0
@@ -23,6 +22,7 @@ EvidenceTellsLabels = (network : Network) (grain landmark : ℕ) (items : List I
 abbrev pub StoredIsTrue : Type 0
 StoredIsTrue = (land : Land) (prep : Preparation) (bytes : List ℕ) → IsGraph land.graph → IsStored land prep bytes → IsTrueOver land prep
 
--- such bytes have no fault
-abbrev pub StoredHasNoFault : Type 0
-StoredHasNoFault = (land : Land) (prep : Preparation) (bytes : List ℕ) (fault : PrepFault) → IsStored land prep bytes → IsFirstFault land bytes fault → ⊥
+-- what is written of a preparation is stored for it, so it is read again as the same
+abbrev pub StoresAreReadAgain : Type 0
+StoresAreReadAgain = (land : Land) (prep : Preparation) (text : List ℕ) → IsGraph land.graph → FitsBytes prep →
+    IsTrueOver land prep → IsStoreOf land prep text → IsStored land prep text

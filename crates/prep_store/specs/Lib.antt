@@ -5,3 +5,4 @@ pub mod Writing
 pub mod Laws
 pub mod Readings
 pub mod Steps
+pub mod Ordering

@@ -1,9 +1,19 @@
 -- Private: what loops over hops compute, and how a list is kept.
-use Rattle.std.specs.Prelude.{◌≡◌, ℕ, ◌+◌, ◌/◌, ◌<◌, ◌==◌, min, nat_lt, if◌then◌else◌, Bool, true, false, ◌&&◌, Option, Some, None, unwrap_or, List, [], ◌∷◌, length, All, slice_index}
+use Rattle.std.specs.Prelude.{◌≡◌, ◌⊎◌, ◌++◌, ℕ, ◌<◌, ◌==◌, nat_lt, if◌then◌else◌, Bool, true, false, Option, Some, None, unwrap_or, List, [], ◌∷◌, length, map, All, slice_index}
+use Rattle.std.specs.List.{AllZip}
 use Rattle.gh_base.specs.declared.edges.DirEdge.{DirEdge}
 use Rattle.gh_base.specs.declared.edges.Hop.{Hop}
+use Rattle.gh_base.specs.Networks.{Network}
+use Rattle.landmark_prep.specs.declared.labels.PackedLabels.{PackedLabels}
+use Rattle.landmark_prep.specs.Packing.{unpacked_labels, AreLong}
+use Rattle.landmark_prep.specs.Preparations.{IsPlacing}
+use Rattle.byteorder.specs.Endian.{big_bytes}
 use Rattle.traffic_core.specs.History.{index_of}
 use Rattle.prep_store.specs.declared.item.Item.{Item}
+use Rattle.prep_store.specs.declared.fault.PrepFault.{PrepFault}
+use Rattle.prep_store.specs.declared.fault.PrepFault.TheVariants as faults
+use Rattle.prep_store.specs.Stores.{words, Lists, lists_text, AreEvidence, AreOfLists}
+use Rattle.prep_store.specs.FirstFaults.{Behind, FailsInLandmarks, FailsInGrain, FailsInLists}
 use Rattle.prep_store.specs.Evidence.{label_in, label_after, is_open}
 
 -- a list of items, of roads with so many nodes
@@ -52,3 +62,37 @@ least_open grain items node first (hop ∷ hops) = least_open grain items node (
 -- bytes, as numbers
 abbrev pub IsEachByte : List ℕ → Type 0
 IsEachByte xs = (k : ℕ) → slice_index xs k < 256
+
+-- the lists of landmarks that were read, and their labels as they are kept
+pub record AreRead (network back : Network) (grain : ℕ) (landmarks : List ℕ) (lists : List Lists) (table : List PackedLabels) : Type 0 where
+  pub evidence : AllZip (AreEvidence network back grain) landmarks lists
+  pub labels : AllZip (AreOfLists network.nodes grain) lists (map (unpacked_labels grain) table)
+  pub long : All (AreLong network.nodes) table
+
+-- what was read behind the limits: as many landmarks as were said, where they are placed, their grain, and their lists
+pub record IsBehindLimits (network back : Network) (count : ℕ) (landmarks : List ℕ) (grain : ℕ) (lists : List Lists) (table : List PackedLabels) : Type 0 where
+  pub all : length landmarks ≡ count
+  pub placing : IsPlacing network count landmarks grain
+  pub read : AreRead network back grain landmarks lists table
+
+abbrev pub text_behind : List ℕ → ℕ → List Lists → List ℕ
+text_behind landmarks grain lists = words landmarks ++ (big_bytes 8 grain ++ lists_text lists)
+
+-- what fails behind the landmarks
+pub record FailsBehindLandmarks (network back : Network) (count total : ℕ) (rest : List ℕ) (fault : PrepFault) : Type 0 where
+  pub landmarks : List ℕ
+  pub grain : ℕ
+  pub after : List ℕ
+  pub bytes : rest ≡ words landmarks ++ after
+  pub all : length landmarks ≡ count
+  pub placing : IsPlacing network count landmarks grain
+  pub fails : FailsInGrain grain total after fault
+      ⊎ Behind (big_bytes 8 grain) after (λ more. FailsInLists network back grain landmarks total more fault)
+
+abbrev pub FailsBehindLimits : Network → Network → ℕ → ℕ → List ℕ → PrepFault → Type 0
+FailsBehindLimits network back count total rest fault =
+    FailsInLandmarks network count total rest fault ⊎ FailsBehindLandmarks network back count total rest fault
+
+-- a byte is left
+abbrev pub IsLeft : List ℕ → PrepFault → Type 0
+IsLeft rest fault = (byte : ℕ) × (more : List ℕ) × (rest ≡ byte ∷ more) × (fault ≡ faults.After)

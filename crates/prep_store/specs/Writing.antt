@@ -1,5 +1,5 @@
 -- In which order a store lists the nodes that a landmark reaches.
-use Rattle.std.specs.Prelude.{◌≡◌, ⊤, ◌⊎◌, ℕ, ◌*◌, ◌<◌, ◌≤◌, Option, Some, None, List, [], ◌∷◌, ◌++◌, length}
+use Rattle.std.specs.Prelude.{◌≡◌, ⊤, ◌⊎◌, ℕ, ◌*◌, ◌^◌, ◌<◌, ◌≤◌, All, Option, Some, None, List, [], ◌∷◌, ◌++◌, length}
 use Rattle.byteorder.specs.Endian.{big_bytes}
 use Rattle.gh_base.specs.Networks.{Network}
 use Rattle.walk_rules.specs.Distances.{label_at}
@@ -56,3 +56,9 @@ pub record IsStoreOf (land : Land) (prep : Preparation) (text : List ℕ) : Type
   pub lists : List Lists
   pub listings : AreAllListings (roads_at land prep.profile prep.snapshot) (back_at land prep.profile prep.snapshot) prep.grain prep.landmarks prep.labels lists
   pub text_is : text ≡ store_text land prep lists
+
+-- the numbers of a preparation fit their bytes, and it has at most 16 landmarks
+pub record FitsBytes (prep : Preparation) : Type 0 where
+  pub profile : prep.profile < 2 ^ 32
+  pub limits : All (λ limit. limit < 2 ^ 32) prep.snapshot
+  pub few : length prep.landmarks ≤ 16

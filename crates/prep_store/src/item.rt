@@ -1,4 +1,4 @@
-//! An item of a list.
+//! Lists, and their items.
 use gh_base::NodeId;
 
 /// A node with its label in grains, as a list has it.
@@ -6,4 +6,11 @@ use gh_base::NodeId;
 pub struct Item {
     pub node: NodeId,
     pub label: u16,
+}
+
+/// Which list: that of this landmark, by number, and whether the one to it.
+#[derive(Clone, Copy, Debug, PartialEq, Eq)]
+pub struct Which {
+    pub landmark: u32,
+    pub back: bool,
 }

@@ -1,16 +1,163 @@
 //! A preparation written as a store.
-ghost use Rattle.std.specs.Prelude.{◌≡◌, ◌≤◌, ℕ, List, OnOk, OnErr, IsErrOf};
+ghost use Rattle.std.specs.Prelude.{◌≡◌, ◌*◌, ◌++◌, ◌<◌, ◌≤◌, ◌^◌, ℕ, List, length, slice_get, Some, IfOk, OnOk, OnErr, IsErrOf};
 ghost use Rattle.std.specs.Io.KnownBytes.{Appends};
 ghost use Rattle.gh_base.specs.Causes.{Rose, AppendsFront};
+ghost use Rattle.landmark_prep.specs.Preparations.{nodes_of};
+ghost use Rattle.landmark_prep.specs.Bounds.{labels_at};
 ghost use Rattle.traffic_core.specs.Truth.{IsTrueOver};
-ghost use Rattle.prep_store.specs.Writing.{IsStoreOf};
+ghost use Rattle.prep_store.specs.declared.item.Item.{Item};
+ghost use Rattle.prep_store.specs.Stores.{list_text, Lists, lists_text};
+ghost use Rattle.prep_store.specs.Ordering.{told_label, front_text, pair_text};
+ghost use Rattle.prep_store.specs.Writing.{IsListing, AreListings, AreAllListings, IsStoreOf};
 
-use gh_base::{GiveFault, Sink};
-use landmark_prep::Prep;
+use crate::item::Item;
+use crate::listed::Listed;
+use crate::ordering::{Told, list_nodes};
+use crate::texts::{put_list, put_nodes, put_u32, put_u64, put_words};
+use gh_base::{FreshView, GiveFault, NoMemory, NodeId, Sink, give_all};
+use landmark_prep::{Prep, preparations_are_one};
 use std::alloc::Global;
 use traffic_core::Ground;
+use weighting::{Side, WeightView, Weighting};
 
-/// Gives the store of a preparation that is true over the ground to a sink, in pieces of some 64 KiB.
+/// How a store begins.
+const MAGIC: &[u8] = b"GHPREP01";
+
+/// What stands before the lists.
+fn front(alloc: Global, ground: &Ground, prep: &Prep) -> Result<Vec<u8>, NoMemory>
+    ensures { IfOk result (λ bytes. bytes.items ≡ front_text ground.now prep.now) }
+{
+    let graph = ground.graph();
+    let mut bytes = Vec::new(alloc);
+    bytes.extend_from_slice(MAGIC)?;
+    put_u32(&mut bytes, prep.profile())?;
+    put_u32(&mut bytes, graph.node_count())?;
+    put_u32(&mut bytes, graph.edge_count())?;
+    put_u32(&mut bytes, prep.landmark_count())?;
+    put_words(&mut bytes, prep.snapshot().as_slice())?;
+    put_nodes(&mut bytes, prep.landmarks().as_slice())?;
+    put_u64(&mut bytes, prep.grain())?;
+    Ok(bytes)
+}
+
+/// Gives a list.
+fn give_list<K: Sink>(alloc: Global, items: &[Item], sink: &mut K) -> Result<(), GiveFault>
+    requires { length items.now < 2 ^ 32 }
+    ensures ok { OnOk result (Appends (K.held sink.old) (K.held sink.new) (list_text items.now)) }
+    ensures err { OnErr result (AppendsFront (K.held sink.old) (K.held sink.new) (list_text items.now)) }
+    ensures fault { IsErrOf result GiveFault.WriteFault → Rose (K.faults sink.old) (K.faults sink.new) }
+    ensures later { K.faults sink.old ≤ K.faults sink.new }
+{
+    let mut bytes = Vec::new(alloc);
+    put_list(&mut bytes, items)?;
+    give_all(sink, &bytes)?;
+    Ok(())
+}
+
+/// Gives the list of a landmark that is seen from one side.
+fn give_side<K: Sink, V: FreshView + Drop>(
+    alloc: Global,
+    view: &V,
+    told: &Told<'_>,
+    landmark: NodeId,
+    sink: &mut K,
+) -> Result<(), GiveFault>
+    requires node { landmark.0 < (V.network view.now).nodes }
+    requires landmark { told.now.landmark < length told.now.prep.now.landmarks }
+    requires labels { nodes_of told.now.prep.now.labels ≡ (V.network view.now).nodes }
+    requires fine { 1 ≤ told.now.prep.now.grain }
+    requires coarse { told.now.prep.now.grain ≤ 2 ^ 46 }
+    ensures ok { OnOk result ((items : List Item)
+        × IsListing (V.network view.now) told.now.prep.now.grain landmark.0 (told_label told.now.prep.now told.now.landmark told.now.back) items
+        × Appends (K.held sink.old) (K.held sink.new) (list_text items)) }
+    ensures err { OnErr result ((items : List Item)
+        → IsListing (V.network view.now) told.now.prep.now.grain landmark.0 (told_label told.now.prep.now told.now.landmark told.now.back) items
+        → AppendsFront (K.held sink.old) (K.held sink.new) (list_text items)) }
+    ensures fault { IsErrOf result GiveFault.WriteFault → Rose (K.faults sink.old) (K.faults sink.new) }
+    ensures later { K.faults sink.old ≤ K.faults sink.new }
+{
+    let listing = list_nodes(alloc, view, told, told.prep.grain(), landmark)?;
+    give_list(alloc, listing.items(), sink)
+}
+
+/// The landmark at a place.
+fn landmark_at(prep: &Prep, place: u32) -> NodeId
+    requires { place < length prep.now.landmarks }
+    ensures { slice_get prep.now.landmarks place ≡ Some result.0 }
+{
+    *prep.landmarks().get(place as usize)
+}
+
+/// Gives both lists of the landmark at a place.
+fn give_pair<K: Sink, V: FreshView + Drop, W: FreshView + Drop>(
+    alloc: Global,
+    out: &V,
+    back: &W,
+    prep: &Prep,
+    place: u32,
+    sink: &mut K,
+) -> Result<(), GiveFault>
+    requires place { place < length prep.now.landmarks }
+    requires nodes { (node : ℕ) → slice_get prep.now.landmarks place ≡ Some node → node < (V.network out.now).nodes }
+    requires back { (W.network back.now).nodes ≡ (V.network out.now).nodes }
+    requires labels { nodes_of prep.now.labels ≡ (V.network out.now).nodes }
+    requires fine { 1 ≤ prep.now.grain }
+    requires coarse { prep.now.grain ≤ 2 ^ 46 }
+    ensures ok { OnOk result ((lists : Lists) × ((node : ℕ) → slice_get prep.now.landmarks place ≡ Some node →
+        AreListings (V.network out.now) (W.network back.now) prep.now.grain node (labels_at prep.now.labels place) lists)
+        × Appends (K.held sink.old) (K.held sink.new) (pair_text lists)) }
+    ensures err { OnErr result ((node : ℕ) (lists : Lists) → slice_get prep.now.landmarks place ≡ Some node →
+        AreListings (V.network out.now) (W.network back.now) prep.now.grain node (labels_at prep.now.labels place) lists →
+        AppendsFront (K.held sink.old) (K.held sink.new) (pair_text lists)) }
+    ensures fault { IsErrOf result GiveFault.WriteFault → Rose (K.faults sink.old) (K.faults sink.new) }
+    ensures later { K.faults sink.old ≤ K.faults sink.new }
+{
+    let landmark = landmark_at(prep, place);
+    let from = Told {
+        prep,
+        landmark: place,
+        back: false,
+    };
+    let to = Told {
+        prep,
+        landmark: place,
+        back: true,
+    };
+    give_side(alloc, out, &from, landmark, sink)?;
+    give_side(alloc, back, &to, landmark, sink)
+}
+
+/// Gives the lists of all landmarks.
+fn give_lists<K: Sink, V: FreshView + Drop, W: FreshView + Drop>(
+    alloc: Global,
+    out: &V,
+    back: &W,
+    prep: &Prep,
+    sink: &mut K,
+) -> Result<(), GiveFault>
+    requires nodes { (place node : ℕ) → slice_get prep.now.landmarks place ≡ Some node → node < (V.network out.now).nodes }
+    requires table { length prep.now.labels ≡ length prep.now.landmarks }
+    requires back { (W.network back.now).nodes ≡ (V.network out.now).nodes }
+    requires labels { nodes_of prep.now.labels ≡ (V.network out.now).nodes }
+    requires fine { 1 ≤ prep.now.grain }
+    requires coarse { prep.now.grain ≤ 2 ^ 46 }
+    ensures ok { OnOk result ((lists : List Lists)
+        × AreAllListings (V.network out.now) (W.network back.now) prep.now.grain prep.now.landmarks prep.now.labels lists
+        × Appends (K.held sink.old) (K.held sink.new) (lists_text lists)) }
+    ensures err { OnErr result ((lists : List Lists)
+        → AreAllListings (V.network out.now) (W.network back.now) prep.now.grain prep.now.landmarks prep.now.labels lists
+        → AppendsFront (K.held sink.old) (K.held sink.new) (lists_text lists)) }
+    ensures fault { IsErrOf result GiveFault.WriteFault → Rose (K.faults sink.old) (K.faults sink.new) }
+    ensures later { K.faults sink.old ≤ K.faults sink.new }
+{
+    'places: for place in 0..prep.landmark_count() {
+        give_pair(alloc, out, back, prep, place, sink)?;
+    }
+    Ok(())
+}
+
+/// Gives the store of a preparation that is true over the ground to a sink: what stands before the lists in one piece,
+/// and then a list at a time.
 ///
 /// After `WriteFault`, which comes only where a call of the sink failed, and after `NoMemory` the sink has a front of the
 /// store behind its old bytes.
@@ -26,5 +173,13 @@ pub fn write_prep<K: Sink>(
     ensures fault { IsErrOf result GiveFault.WriteFault → Rose (K.faults sink.old) (K.faults sink.new) }
     ensures later { K.faults sink.old ≤ K.faults sink.new }
 {
-    Err(GiveFault::NoMemory)
+    let graph = ground.graph();
+    let weighting = Weighting::new(ground.profile(prep.profile()), None);
+    let listed = Listed::new(graph, prep.snapshot());
+    let out = WeightView::new(graph, &listed, &weighting, Side::Out);
+    let back = WeightView::new(graph, &listed, &weighting, Side::Back);
+    preparations_are_one();
+    let bytes = front(alloc, ground, prep)?;
+    give_all(sink, &bytes)?;
+    give_lists(alloc, &out, &back, prep, sink)
 }

@@ -1,0 +1,99 @@
+-- What a preparation has of its roads, and how its text falls into parts.
+use Rattle.std.specs.List.{AllZip}
+use Rattle.std.specs.Prelude.{slice_get, slice_index_or, min}
+use Rattle.std.proofs.Common.{◌≡◌, ◌<◌, ◌≤◌, ◌+◌, ◌*◌, ◌/◌, ◌^◌, ℕ, Option, Some, None, List, [], ◌∷◌, ◌++◌, length, drop, zero, suc, refl, sym, subst, ap, ◌∙◌, append_assoc, inl, inr, arith}
+use Rattle.std.specs.Io.KnownBytes.{Appends}
+use Rattle.std.proofs.KnownBytes.{Appends-trans}
+use Rattle.gh_base.specs.declared.edges.DirEdge.{DirEdge}
+use Rattle.gh_base.specs.Networks.{Network}
+use Rattle.gh_base.specs.Causes.{AppendsFront}
+use Rattle.base_graph.specs.Graphs.{Graph}
+use Rattle.plain_map.proofs.Sent.{sends_all, first_failed, second_failed}
+use Rattle.weighting.specs.declared.profile.Profile.{Profile}
+use Rattle.weighting.specs.declared.weight_view.Side.{Side}
+use Rattle.weighting.specs.Profiles.{profile_at}
+use Rattle.weighting.specs.Roads.{network_of}
+use Rattle.weighting.specs.Rules.{Rule, rule_of}
+use Rattle.walk_rules.specs.Distances.{in_grains, IsLabel, label_at}
+use Rattle.walk_rules.proofs.Options.{some_or_none}
+use Rattle.alt_search.proofs.Listed.{within}
+use Rattle.landmark_prep.specs.Packing.{Labels}
+use Rattle.landmark_prep.specs.Preparations.{AreLabelsOf, Preparation, grain_of, IsPrepOf}
+use Rattle.landmark_prep.specs.Bounds.{labels_at}
+use Rattle.byteorder.specs.Endian.{big_bytes}
+use Rattle.traffic_core.specs.Lands.{Land, rule_alone}
+use Rattle.traffic_core.specs.History.{limit_in}
+use Rattle.prep_store.specs.Stores.{words, Lists, lists_text, head_text}
+use Rattle.prep_store.specs.Writing.{AreAllListings, store_text}
+use Rattle.prep_store.specs.Ordering.{front_text}
+
+-- a landmark is one of the nodes: it has a label, that of the walk of no hop
+label_of_own : (network : Network) (grain landmark : ℕ) (label : Option ℕ) → IsLabel (in_grains grain network) (65534 * grain) landmark landmark label → (x : ℕ) × (label ≡ Some x)
+label_of_own network grain landmark None none = absurd (none [] refl)
+label_of_own network grain landmark (Some x) is = (x, refl)
+
+landmark_within : (network : Network) (grain landmark : ℕ) (labels : Labels) → AreLabelsOf network grain landmark labels → landmark < network.nodes
+landmark_within network grain landmark labels a =
+    let own = label_of_own network grain landmark (label_at labels.from landmark) (a.from_it landmark) in
+    omega (arith, within labels.from landmark own.0 own.1, a.from_each)
+
+all_at : (Holds : ℕ → Labels → Type 0) (landmarks : List ℕ) (table : List Labels) (place node : ℕ) → AllZip Holds landmarks table → slice_get landmarks place ≡ Some node → Holds node (labels_at table place)
+all_at Holds [] table place node a e = absurd (cc)
+all_at Holds (x ∷ landmarks) [] place node a e = absurd a
+all_at Holds (x ∷ landmarks) (l ∷ table) zero node a e = let same : x ≡ node = cc in subst (λ (n : ℕ). Holds n l) same a.0
+all_at Holds (x ∷ landmarks) (l ∷ table) (suc place) node a e = all_at Holds landmarks table place node a.1 e
+
+as_many : (Holds : ℕ → Labels → Type 0) (landmarks : List ℕ) (table : List Labels) → AllZip Holds landmarks table → length table ≡ length landmarks
+as_many Holds [] [] a = refl
+as_many Holds [] (l ∷ table) a = absurd a
+as_many Holds (x ∷ landmarks) [] a = absurd a
+as_many Holds (x ∷ landmarks) (l ∷ table) a = omega (arith, as_many Holds landmarks table a.1)
+
+module _ (network : Network) (count : ℕ) (prep : Preparation) (is : IsPrepOf network count prep) where
+  pub prep_nodes : (place node : ℕ) → slice_get prep.landmarks place ≡ Some node → node < network.nodes
+  prep_nodes place node e = landmark_within network prep.grain node (labels_at prep.labels place) (all_at (AreLabelsOf network prep.grain) prep.landmarks prep.labels place node is.labels_are e)
+
+  pub prep_table : length prep.labels ≡ length prep.landmarks
+  prep_table = as_many (AreLabelsOf network prep.grain) prep.landmarks prep.labels is.labels_are
+
+  pub prep_fine : 1 ≤ prep.grain
+  prep_fine = omega (arith, is.placing.grain_is)
+
+  pub prep_coarse : prep.grain ≤ 70368744177664
+  prep_coarse = omega (arith, is.placing.grain_is)
+
+-- the text of a store is what stands before the lists, and the lists
+pub store_split : (land : Land) (prep : Preparation) (lists : List Lists) → store_text land prep lists ≡ front_text land prep ++ lists_text lists
+store_split land prep lists = split (head_text land prep.profile (length prep.landmarks)) (words prep.snapshot) (words prep.landmarks) (big_bytes 8 prep.grain) (lists_text lists)
+  where
+    split : (a b c d e : List ℕ) → a ++ (b ++ (c ++ (d ++ e))) ≡ (a ++ (b ++ (c ++ d))) ++ e
+    split a b c d e = simp append_assoc
+
+-- what a view of the graph shows from a side, under the profile alone at the snapshot
+pub seen_roads : (side : Side) (land : Land) (prep : Preparation) (number : ℕ) (own : Profile) (rule : Rule) (seen : DirEdge → ℕ) (limits : List ℕ) (graph : Graph) (network : Network) →
+    network ≡ network_of side rule seen graph → rule ≡ rule_of own None → own ≡ profile_at land.profiles number → number ≡ prep.profile → seen ≡ limit_in limits → limits ≡ prep.snapshot → graph ≡ land.graph →
+    network ≡ network_of side (rule_alone (profile_at land.profiles prep.profile)) (limit_in prep.snapshot) land.graph
+seen_roads side land prep number own rule seen limits graph network is rule_is own_is number_is seen_is limits_are graph_is =
+    is ∙ (ap (λ (r : Rule). network_of side r seen graph) (rule_is ∙ ap (λ (p : Profile). rule_of p None) (own_is ∙ ap (profile_at land.profiles) number_is))
+    ∙ (ap (λ (f : DirEdge → ℕ). network_of side (rule_alone (profile_at land.profiles prep.profile)) f graph) (seen_is ∙ ap limit_in limits_are)
+    ∙ ap (λ (gr : Graph). network_of side (rule_alone (profile_at land.profiles prep.profile)) (limit_in prep.snapshot) gr) graph_is))
+
+module _ (land : Land) (prep : Preparation) (old mid new : Option (List ℕ)) (front : List ℕ) (front_is : front ≡ front_text land prep) where
+  -- all is given
+  pub whole_given : (lists : List Lists) → Appends old mid front → Appends mid new (lists_text lists) → Appends old new (store_text land prep lists)
+  whole_given lists a b =
+      subst (Appends old new) (ap (λ (t : List ℕ). t ++ lists_text lists) front_is ∙ sym (store_split land prep lists)) (Appends-trans old mid new front (lists_text lists) a b)
+
+  -- a front of what stands before the lists
+  pub front_failed : (lists : List Lists) → AppendsFront old mid front → AppendsFront old mid (store_text land prep lists)
+  front_failed lists a = first_failed old mid front (lists_text lists) (store_text land prep lists) a (ap (λ (t : List ℕ). t ++ lists_text lists) front_is ∙ sym (store_split land prep lists))
+
+  -- and a front of the lists behind it
+  pub lists_failed : (lists : List Lists) → Appends old mid front → AppendsFront mid new (lists_text lists) → AppendsFront old new (store_text land prep lists)
+  lists_failed lists a b =
+      second_failed old mid new front [] (lists_text lists) (store_text land prep lists) (sends_all old mid front a) b (ap (λ (t : List ℕ). t ++ lists_text lists) front_is ∙ sym (store_split land prep lists))
+
+-- listings over networks that are the same
+pub listings_over : (a b c d : Network) (grain : ℕ) (landmarks : List ℕ) (table : List Labels) (lists : List Lists) → a ≡ b → c ≡ d → AreAllListings a c grain landmarks table lists → AreAllListings b d grain landmarks table lists
+listings_over a b c d grain landmarks table lists e f l =
+    subst (λ (n : Network). AreAllListings b n grain landmarks table lists) f (subst (λ (n : Network). AreAllListings n c grain landmarks table lists) e l)
