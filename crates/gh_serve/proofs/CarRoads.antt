@@ -18,11 +18,10 @@ use Rattle.prep_store.specs.Stores.{IsStored}
 use Rattle.prep_store.specs.FirstFaults.{is_of_bytes, IsFirstFault}
 use Rattle.prep_store.specs.declared.fault.PrepFault.{PrepFault}
 use Rattle.prep_store.specs.declared.fault.PrepFault.TheVariants as fault
-use Rattle.prep_store.specs.Laws.{StoredHasNoFault}
 use Rattle.gh_serve.specs.Labels.{size_of}
 use Rattle.gh_serve.specs.Serving.{AreRoadsRead}
 use Rattle.gh_serve.specs.Statuses.{IsShortMap, IsMap, IsOfPrep, IsOfCheck, IsOfStore, status_of_store, MapSays, IsCalm, IsDoneOrNoMemory}
-use Rattle.gh_serve.specs.Preps.{car_land, OfCars, Stores, StoresFront, Preps, PrepsFront, PrepsPart, AsksPrep, AreFewOfPrep, AreManyOfPrep, PrepSays, PrepSaysOf, IsChecked, StoreSays, StoreSaysOf, IsStoreRead, Checks, ChecksFront, ChecksPart, checked_text}
+use Rattle.gh_serve.specs.Preps.{car_land, OfCars, Stores, StoresFront, Preps, PrepsFront, PrepsPart, AsksPrep, AreFewOfPrep, AreManyOfPrep, PrepSays, PrepSaysOf, IsChecked, StoreSays, StoreSaysOf, HasNoFault, Checks, ChecksFront, ChecksPart, checked_text}
 use Rattle.gh_serve.proofs.Complete.{one_map, no_fault}
 use Rattle.gh_serve.specs.declared.status.Status.{Status}
 use Rattle.gh_serve.specs.declared.status.Status.TheVariants as status
@@ -165,33 +164,33 @@ store_says s form None left found read said = tt
 store_says s form (Some held) None found read said = tt
 store_says s form (Some held) (Some bytes) found read said = fault_says s form held bytes found read.1 said
 
-checks_to_the_end : StoredHasNoFault → (s : Status) (form : Form) (held bytes : List ℕ) → IsOfCheck s → MapSays s form held → StoreSays s form held bytes → IsMap form held → IsStoreRead form held bytes →
+checks_to_the_end : (s : Status) (form : Form) (held bytes : List ℕ) → IsOfCheck s → MapSays s form held → StoreSays s form held bytes → IsMap form held → HasNoFault form held bytes →
     (s ≡ status.OpenFault → ⊥) → (s ≡ status.ReadFault which.Map → ⊥) → (s ≡ status.ReadFault which.Script → ⊥) → (s ≡ status.WriteFault → ⊥) → IsDoneOrNoMemory s
-checks_to_the_end law status.Done form held bytes of map_says says is stored no_open no_map no_store no_write = inl refl
-checks_to_the_end law status.NoMemory form held bytes of map_says says is stored no_open no_map no_store no_write = inr refl
-checks_to_the_end law status.OpenFault form held bytes of map_says says is stored no_open no_map no_store no_write = absurd (no_open refl)
-checks_to_the_end law (status.ReadFault which.Map) form held bytes of map_says says is stored no_open no_map no_store no_write = absurd (no_map refl)
-checks_to_the_end law (status.ReadFault which.Script) form held bytes of map_says says is stored no_open no_map no_store no_write = absurd (no_store refl)
-checks_to_the_end law status.WriteFault form held bytes of map_says says is stored no_open no_map no_store no_write = absurd (no_write refl)
-checks_to_the_end law (status.BadMap f) form held bytes of map_says says is stored no_open no_map no_store no_write = absurd (no_fault f form held is map_says.1)
-checks_to_the_end law (status.TooLarge quantity.Map limit) form held bytes of map_says says is stored no_open no_map no_store no_write = absurd (let short = is.short in omega (arith, map_says.0, map_says.1))
-checks_to_the_end law (status.BadPrep fault) form held bytes of map_says says is stored no_open no_map no_store no_write =
-    absurd (let one = stored says.found says.are in law (car_land says.found) one.0 bytes fault one.1 says.stands)
-checks_to_the_end law status.Usage form held bytes of map_says says is stored no_open no_map no_store no_write = absurd of
-checks_to_the_end law (status.BadScript line byte kind) form held bytes of map_says says is stored no_open no_map no_store no_write = absurd of
-checks_to_the_end law (status.TooLarge quantity.Script limit) form held bytes of map_says says is stored no_open no_map no_store no_write = absurd of
-checks_to_the_end law (status.TooLarge quantity.Labels limit) form held bytes of map_says says is stored no_open no_map no_store no_write = absurd of
-checks_to_the_end law (status.TooLarge quantity.Way limit) form held bytes of map_says says is stored no_open no_map no_store no_write = absurd of
-checks_to_the_end law status.NoLandmark form held bytes of map_says says is stored no_open no_map no_store no_write = absurd of
+checks_to_the_end status.Done form held bytes of map_says says is stored no_open no_map no_store no_write = inl refl
+checks_to_the_end status.NoMemory form held bytes of map_says says is stored no_open no_map no_store no_write = inr refl
+checks_to_the_end status.OpenFault form held bytes of map_says says is stored no_open no_map no_store no_write = absurd (no_open refl)
+checks_to_the_end (status.ReadFault which.Map) form held bytes of map_says says is stored no_open no_map no_store no_write = absurd (no_map refl)
+checks_to_the_end (status.ReadFault which.Script) form held bytes of map_says says is stored no_open no_map no_store no_write = absurd (no_store refl)
+checks_to_the_end status.WriteFault form held bytes of map_says says is stored no_open no_map no_store no_write = absurd (no_write refl)
+checks_to_the_end (status.BadMap f) form held bytes of map_says says is stored no_open no_map no_store no_write = absurd (no_fault f form held is map_says.1)
+checks_to_the_end (status.TooLarge quantity.Map limit) form held bytes of map_says says is stored no_open no_map no_store no_write = absurd (let short = is.short in omega (arith, map_says.0, map_says.1))
+checks_to_the_end (status.BadPrep fault) form held bytes of map_says says is stored no_open no_map no_store no_write =
+    absurd (stored says.found says.are fault says.stands)
+checks_to_the_end status.Usage form held bytes of map_says says is stored no_open no_map no_store no_write = absurd of
+checks_to_the_end (status.BadScript line byte kind) form held bytes of map_says says is stored no_open no_map no_store no_write = absurd of
+checks_to_the_end (status.TooLarge quantity.Script limit) form held bytes of map_says says is stored no_open no_map no_store no_write = absurd of
+checks_to_the_end (status.TooLarge quantity.Labels limit) form held bytes of map_says says is stored no_open no_map no_store no_write = absurd of
+checks_to_the_end (status.TooLarge quantity.Way limit) form held bytes of map_says says is stored no_open no_map no_store no_write = absurd of
+checks_to_the_end status.NoLandmark form held bytes of map_says says is stored no_open no_map no_store no_write = absurd of
 
-pub checks_complete : StoredHasNoFault → (s : Status) (form : Form) (holds left : Option (List ℕ)) (b c t u i j k l : ℕ) → IsOfCheck s → IfSome holds (MapSays s form) →
+pub checks_complete : (s : Status) (form : Form) (holds left : Option (List ℕ)) (b c t u i j k l : ℕ) → IsOfCheck s → IfSome holds (MapSays s form) →
     IfSome holds (λ held. IfSome left (λ bytes. StoreSays s form held bytes)) →
     (s ≡ status.OpenFault → Rose b c) → (s ≡ status.ReadFault which.Map → Rose t u) → (s ≡ status.ReadFault which.Script → Rose i j) → (s ≡ status.WriteFault → Rose k l) →
-    IfSome holds (λ held. IfSome left (λ bytes. IsMap form held → IsStoreRead form held bytes → IsCalm b c → IsCalm t u → IsCalm i j → IsCalm k l → IsDoneOrNoMemory s))
-checks_complete law s form None left b c t u i j k l of map_says says bring read_map read_store write = tt
-checks_complete law s form (Some held) None b c t u i j k l of map_says says bring read_map read_store write = tt
-checks_complete law s form (Some held) (Some bytes) b c t u i j k l of map_says says bring read_map read_store write = λ is stored no_b no_t no_i no_k.
-    checks_to_the_end law s form held bytes of map_says says is stored (λ e. no_b (bring e)) (λ e. no_t (read_map e)) (λ e. no_i (read_store e)) (λ e. no_k (write e))
+    IfSome holds (λ held. IfSome left (λ bytes. IsMap form held → HasNoFault form held bytes → IsCalm b c → IsCalm t u → IsCalm i j → IsCalm k l → IsDoneOrNoMemory s))
+checks_complete s form None left b c t u i j k l of map_says says bring read_map read_store write = tt
+checks_complete s form (Some held) None b c t u i j k l of map_says says bring read_map read_store write = tt
+checks_complete s form (Some held) (Some bytes) b c t u i j k l of map_says says bring read_map read_store write = λ is stored no_b no_t no_i no_k.
+    checks_to_the_end s form held bytes of map_says says is stored (λ e. no_b (bring e)) (λ e. no_t (read_map e)) (λ e. no_i (read_store e)) (λ e. no_k (write e))
 
 -- a preparation before any entry is true over the roads
 pub true_made : (made : Made) (land : Land) (count : ℕ) → LandmarksAreTheCount → 0 < length land.profiles → IfPrep made (λ prep. IsPrepAt land [] 0 count prep) → IfPrep made (λ prep. IsTrueOver land prep)

@@ -122,6 +122,6 @@ abbrev pub StoreSaysOf : Status → Land → List ℕ → Type 0
 StoreSaysOf (status.BadPrep fault) land bytes = IsFirstFault land bytes fault
 StoreSaysOf status land bytes = Unit {0}
 
--- the bytes are the store of a preparation of the roads, in whatever order these list the edges around a tower
-abbrev pub IsStoreRead : Form → List ℕ → List ℕ → Type 0
-IsStoreRead form held bytes = (found : Roads) → AreRoadsRead form held found → (prep : Preparation) × IsStored (car_land found) prep bytes
+-- the bytes have no fault as a store of the roads, in whatever order these list the edges around a tower
+abbrev pub HasNoFault : Form → List ℕ → List ℕ → Type 0
+HasNoFault form held bytes = (found : Roads) → AreRoadsRead form held found → (fault : PrepFault) → IsFirstFault (car_land found) bytes fault → ⊥

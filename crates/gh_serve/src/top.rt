@@ -9,7 +9,7 @@ ghost use Rattle.gh_serve.specs.Roads.{WritesRoads, WritesRoadsFront, WritesRoad
 ghost use Rattle.gh_serve.specs.Statuses.{IsMap, MapSays, ScriptSays, LabelsSay, IsStatusOf, IsSilent, IsCalm, IsDoneOrNoMemory};
 ghost use Rattle.gh_serve.specs.declared.status.Which.TheVariants as which;
 ghost use Rattle.gh_serve.specs.Serving.{Serves, ServesFront, ServesPart};
-ghost use Rattle.gh_serve.specs.Preps.{Preps, PrepsFront, PrepsPart, PrepSays, AreFewOfPrep, Checks, ChecksFront, ChecksPart, StoreSays, IsStoreRead};
+ghost use Rattle.gh_serve.specs.Preps.{Preps, PrepsFront, PrepsPart, PrepSays, AreFewOfPrep, Checks, ChecksFront, ChecksPart, StoreSays, HasNoFault};
 ghost use Rattle.gh_serve.specs.Converting.{Converts, ConvertsFront, ConvertsPart, ConversionSays, IsConvertible};
 
 use crate::commands::{check_map, convert_map, prep_map, roads_map, serve_map};
@@ -125,7 +125,7 @@ pub fn run<R: Threads + Sync, F: Files, I: Source, K: Sink, G: Gate>(
         IsDoneOrNoMemory result ⊎ (result ≡ Status.NoLandmark)) }
     ensures checked_complete { IfStoreChecked (asks words.now) (F.holds files.old)
         (I.left script.old) (λ name form held bytes. let mark = F.mark_of files.old name in
-        IsMap form held → IsStoreRead form held bytes →
+        IsMap form held → HasNoFault form held bytes →
         IsCalm (F.failed_brings files.old mark) (F.failed_brings files.new mark) →
         IsCalm (F.failed_takes files.old mark) (F.failed_takes files.new mark) →
         IsCalm (I.faults script.old) (I.faults script.new) →

@@ -1,6 +1,6 @@
 -- What is written of a preparation is stored for it.
 use Rattle.std.specs.List.{AllZip}
-use Rattle.std.proofs.Common.{◌≡◌, ℕ, ◌*◌, ◌≤◌, List, [], ◌∷◌, length, refl, sym, arith}
+use Rattle.std.proofs.Common.{ℕ, ◌*◌, ◌≤◌, List, [], ◌∷◌, length, arith}
 use Rattle.gh_base.specs.Networks.{Network}
 use Rattle.walk_rules.specs.Walks.{AreTurned}
 use Rattle.walk_rules.specs.Distances.{in_grains, AreLabelsFrom, label_at}
@@ -58,22 +58,24 @@ stored_again land prep text graph fits is_true store =
     let network = roads_at land prep.profile prep.snapshot in
     let back = back_at land prep.profile prep.snapshot in
     let turned : AreTurned network back = sides_are_turned (rule_alone (profile_at land.profiles prep.profile)) (limit_in prep.snapshot) land.graph graph in
-    let fine : 1 ≤ prep.grain = prep_fine network (length prep.landmarks) prep is_true.is_prep in
-    (store.lists, record {
-      landmarks = record {
-        limits = record {
-          head = record {
-            bytes_are = store.text_is;
-            there = is_true.there;
-            word = fits.profile;
-            some = omega (arith, is_true.is_prep.placing.landmarks_are.each.some);
-            few = fits.few;
+    let fine : 1 ≤ prep.grain = prep_fine network (length prep.landmarks) prep is_true.is_prep in (
+      store.lists,
+      record {
+        landmarks = record {
+          limits = record {
+            head = record {
+              bytes_are = store.text_is;
+              there = is_true.there;
+              word = fits.profile;
+              some = omega (arith, is_true.is_prep.placing.landmarks_are.each.some);
+              few = fits.few;
+            };
+            long = is_true.long;
+            each = fits.limits;
           };
-          long = is_true.long;
-          each = fits.limits;
+          placing = is_true.is_prep.placing;
         };
-        placing = is_true.is_prep.placing;
-      };
-      evidence = all_evidence network back prep.grain fine turned prep.landmarks prep.labels store.lists is_true.is_prep.labels_are store.listings;
-      labels = all_labels network back prep.grain fine turned prep.landmarks prep.labels store.lists is_true.is_prep.labels_are store.listings;
-    })
+        evidence = all_evidence network back prep.grain fine turned prep.landmarks prep.labels store.lists is_true.is_prep.labels_are store.listings;
+        labels = all_labels network back prep.grain fine turned prep.landmarks prep.labels store.lists is_true.is_prep.labels_are store.listings;
+      },
+    )

@@ -1,6 +1,6 @@
 -- Which nodes may be listed next, as the list and the keys grow.
-use Rattle.std.proofs.Common.{◌≡◌, ◌⊎◌, ◌<◌, ◌≤◌, ◌+◌, ◌*◌, ◌/◌, ◌^◌, ℕ, Option, Some, None, IsSome, List, [], ◌∷◌, ◌++◌, length, Contains, zero, suc, refl, sym, subst, ap, ◌∙◌, inl, inr, arith}
-use Rattle.std.specs.Prelude.{slice_set, is_none, is_some, true, false}
+use Rattle.std.proofs.Common.{◌≡◌, ◌⊎◌, ◌<◌, ◌≤◌, ◌+◌, ◌*◌, ◌/◌, ℕ, Option, Some, None, IsSome, List, [], ◌∷◌, ◌++◌, length, Contains, refl, sym, subst, ap, ◌∙◌, inl, inr, arith}
+use Rattle.std.specs.Prelude.{slice_set, is_none, is_some, false}
 use Rattle.std.proofs.Math.Nat.{mul-div_cancel_left}
 use Rattle.std.proofs.lemmas.List.{get_or-set_other, get_or-set_same, length-set}
 use Rattle.gh_base.specs.declared.edges.Hop.{Hop}
@@ -12,9 +12,9 @@ use Rattle.walk_rules.proofs.Options.{some_or_none, some_of, Contains-cons_cases
 use Rattle.search_queue.specs.Keys.{key_at}
 use Rattle.alt_search.proofs.Listed.{emptied}
 use Rattle.prep_store.specs.declared.item.Item.{Item}
-use Rattle.prep_store.specs.Evidence.{label_in, label_after, IsReached}
+use Rattle.prep_store.specs.Evidence.{label_in, label_after}
 use Rattle.prep_store.specs.Writing.{IsCandidate, IsNext}
-use Rattle.prep_store.specs.Ordering.{key_of, is_new, Gives, AreCandidates, IsOpen, IsOpenBut, Enters, Passes, Offers}
+use Rattle.prep_store.specs.Ordering.{key_of, is_new, Gives, IsOpen, IsOpenBut, Enters, Passes, Offers}
 use Rattle.prep_store.proofs.Lookups.{same_or_not, no_some, label_push_cases, label_push_front, label_push_other, label_push_new}
 
 pub item_one : (a b : Item) → a.node.0 ≡ b.node.0 → a.label ≡ b.label → a ≡ b
@@ -51,16 +51,21 @@ pushed_candidate network grain labels listed last item c =
     let other : last.node.0 ≡ item.node.0 → ⊥ = λ e. elim (same_or_not last.node.0 item.node.0) [
       | inr n ↦ n e
       | inl s ↦ no_some (sym (subst (λ (k : ℕ). label_in (listed ++ last ∷ []) k ≡ None) (sym s) c.new) ∙ label_push_new listed last (subst (λ (k : ℕ). label_in listed k ≡ None) (sym s) was_new))
-    ] in
-    (other, elim (label_push_cases listed last r.node r.label r.label_is) [
-      | inl l ↦ inl (record {
+    ] in (
+      other,
+      elim (label_push_cases listed last r.node r.label r.label_is) [
+        | inl l ↦ inl (record {
           label = c.label;
           new = was_new;
           reached = record { node = r.node; label = r.label; label_is = l; hop = r.hop; leaves = r.leaves; leads = r.leads; weight = r.weight; weighs = r.weighs; gives = r.gives };
         })
-      | inr e ↦ inr (r.hop, subst (λ (k : ℕ). Contains (hops_from network k) r.hop) (sym e.0) r.leaves,
-          record { leads = r.leads; weight = r.weight; weighs = r.weighs; gives = r.gives ∙ ap (λ (k : ℕ). label_after grain k r.weight) (sym e.1) })
-    ])
+        | inr e ↦ inr (
+          r.hop,
+          subst (λ (k : ℕ). Contains (hops_from network k) r.hop) (sym e.0) r.leaves,
+          record { leads = r.leads; weight = r.weight; weighs = r.weighs; gives = r.gives ∙ ap (λ (k : ℕ). label_after grain k r.weight) (sym e.1) },
+        )
+      ],
+    )
 
 -- a candidate of another node stays one
 pub kept_candidate : (network : Network) (grain : ℕ) (labels : ℕ → Option ℕ) (listed : List Item) (last item : Item) → (last.node.0 ≡ item.node.0 → ⊥) → IsCandidate network grain labels listed item → IsCandidate network grain labels (listed ++ last ∷ []) item
@@ -144,7 +149,7 @@ module _ (network : Network) (grain : ℕ) (labels : ℕ → Option ℕ) (listed
       } in
       let own : key_at keys' item.node.0 ≡ Some (key_of item) = ap (λ (ks : List (Option ℕ)). key_at ks item.node.0) e.keys_are ∙ get_or-set_same keys item.node.0 (Some (key_of item)) None long in
       let others : (node : ℕ) → (item.node.0 ≡ node → ⊥) → key_at keys' node ≡ key_at keys node =
-          λ node n. ap (λ (ks : List (Option ℕ)). key_at ks node) e.keys_are ∙ get_or-set_other keys item.node.0 node (Some (key_of item)) None (λ s. n (sym s)) in
+      λ node n. ap (λ (ks : List (Option ℕ)). key_at ks node) e.keys_are ∙ get_or-set_other keys item.node.0 node (Some (key_of item)) None (λ s. n (sym s)) in
       record {
         each = λ node key k. elim (same_or_not item.node.0 node) [
           | inl s ↦

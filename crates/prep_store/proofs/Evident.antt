@@ -1,7 +1,7 @@
 -- The listing of a landmark's labels is evidence of them: each item is reached by those before it, and each node that has a label is listed.
 use Rattle.std.specs.Option.{option_map}
 use Rattle.std.specs.Prelude.{nat_lt}
-use Rattle.std.proofs.Common.{◌≡◌, ℕ, ◌+◌, ◌*◌, ◌/◌, ◌<◌, ◌≤◌, min, false, Option, Some, None, is_some, unwrap_or, List, [], ◌∷◌, ◌++◌, length, IsSome, Contains, zero, suc, refl, sym, subst, ap, ◌∙◌, inl, inr, append_assoc, append-nil, arith}
+use Rattle.std.proofs.Common.{◌≡◌, ℕ, ◌+◌, ◌*◌, ◌/◌, ◌≤◌, min, false, Option, Some, None, is_some, unwrap_or, List, [], ◌∷◌, ◌++◌, IsSome, Contains, zero, suc, refl, sym, subst, ap, ◌∙◌, inl, inr, append_assoc, append-nil, arith}
 use Rattle.std.proofs.Math.Nat.{mul-le-mul_left}
 use Rattle.std.proofs.lemmas.Bool.{cases_lt}
 use Rattle.std.proofs.lemmas.Bool.Decides.{nat_tests}
@@ -17,7 +17,7 @@ use Rattle.label_spread.specs.Cutting.{Contains-map_from}
 use Rattle.landmark_prep.specs.Packing.{in_ms}
 use Rattle.landmark_prep.proofs.Graining.{Contains-map, whole_grains}
 use Rattle.prep_store.specs.declared.item.Item.{Item}
-use Rattle.prep_store.specs.Evidence.{label_in, label_after, MayAllFollow, is_open, IsClosedAt, IsEvidence}
+use Rattle.prep_store.specs.Evidence.{label_in, label_after, MayAllFollow, IsClosedAt, IsEvidence}
 use Rattle.prep_store.specs.Writing.{IsCandidate, AreNext, IsListing}
 use Rattle.prep_store.proofs.Attained.{scaled_min}
 use Rattle.prep_store.proofs.Candidates.{same_factor}
@@ -60,6 +60,7 @@ not_open grain x tail (Some w) head t f = let h = f w refl in shut tail head h.0
   where
     below : (a b : ℕ) → b ≤ a → nat_lt a b ≡ false
     below a b le = grind (arith, nat_tests)
+
     shut : (tail head : Option ℕ) (z : ℕ) → tail ≡ Some x → head ≡ Some z → z ≤ x + w / grain → is_violated tail (Some (w / grain)) head ≡ false
     shut tail head z t h le = rw (t, h) (below (x + w / grain) z le)
 

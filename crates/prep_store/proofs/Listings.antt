@@ -1,7 +1,6 @@
 -- A landmark has one listing, and lists are given one landmark after another.
-use Rattle.std.specs.List.{AllZip}
 use Rattle.std.specs.Prelude.{slice_get}
-use Rattle.std.proofs.Common.{◌≡◌, ◌<◌, ◌≤◌, ◌⊎◌, ℕ, Option, Some, None, List, [], ◌∷◌, ◌++◌, length, drop, get_or, ◌+◌, zero, suc, refl, sym, subst, ap, ◌∙◌, append_assoc, append-nil, inl, inr, arith}
+use Rattle.std.proofs.Common.{◌≡◌, ◌<◌, ◌≤◌, ◌⊎◌, ℕ, Option, Some, List, [], ◌∷◌, ◌++◌, length, drop, get_or, ◌+◌, refl, sym, subst, ap, ◌∙◌, append_assoc, append-nil, inl, inr, arith}
 use Rattle.std.proofs.lemmas.List.{drop_more, drop_all}
 use Rattle.std.proofs.lemmas.Option.{slice_get-get_or}
 use Rattle.std.specs.Io.KnownBytes.{Appends}
@@ -14,7 +13,7 @@ use Rattle.landmark_prep.specs.Bounds.{labels_at}
 use Rattle.prep_store.specs.declared.item.Item.{Item}
 use Rattle.prep_store.specs.Stores.{Lists, list_text, lists_text}
 use Rattle.prep_store.specs.Ordering.{pair_text, AreGivenSoFar}
-use Rattle.prep_store.specs.Writing.{IsCandidate, IsNext, AreNext, IsListing, AreListings, AreAllListings}
+use Rattle.prep_store.specs.Writing.{IsNext, AreNext, IsListing, AreListings, AreAllListings}
 use Rattle.prep_store.proofs.Candidates.{item_one}
 
 -- there is one next item

@@ -7,8 +7,8 @@ use Rattle.search_queue.specs.Keys.{key_at}
 use Rattle.prep_store.specs.declared.item.Item.{Item}
 use Rattle.prep_store.specs.Evidence.{label_in}
 use Rattle.prep_store.specs.Steps.{Listed}
-use Rattle.prep_store.specs.Writing.{IsNext, AreNext, IsListing}
-use Rattle.prep_store.specs.Ordering.{is_new, key_of, IsOpen, IsUnderway}
+use Rattle.prep_store.specs.Writing.{IsNext, IsListing}
+use Rattle.prep_store.specs.Ordering.{is_new, IsOpen, IsUnderway}
 use Rattle.prep_store.proofs.Lookups.{no_some}
 use Rattle.prep_store.proofs.Candidates.{item_one, least_next, less_new}
 

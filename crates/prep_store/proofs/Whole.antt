@@ -1,7 +1,7 @@
 -- What a preparation has of its roads, and how its text falls into parts.
 use Rattle.std.specs.List.{AllZip}
-use Rattle.std.specs.Prelude.{slice_get, slice_index_or, min}
-use Rattle.std.proofs.Common.{◌≡◌, ◌<◌, ◌≤◌, ◌+◌, ◌*◌, ◌/◌, ◌^◌, ℕ, Option, Some, None, List, [], ◌∷◌, ◌++◌, length, drop, zero, suc, refl, sym, subst, ap, ◌∙◌, append_assoc, inl, inr, arith}
+use Rattle.std.specs.Prelude.{slice_get}
+use Rattle.std.proofs.Common.{◌≡◌, ◌<◌, ◌≤◌, ◌*◌, ℕ, Option, Some, None, List, [], ◌∷◌, ◌++◌, length, zero, suc, refl, sym, subst, ap, ◌∙◌, append_assoc, arith}
 use Rattle.std.specs.Io.KnownBytes.{Appends}
 use Rattle.std.proofs.KnownBytes.{Appends-trans}
 use Rattle.gh_base.specs.declared.edges.DirEdge.{DirEdge}
@@ -15,10 +15,9 @@ use Rattle.weighting.specs.Profiles.{profile_at}
 use Rattle.weighting.specs.Roads.{network_of}
 use Rattle.weighting.specs.Rules.{Rule, rule_of}
 use Rattle.walk_rules.specs.Distances.{in_grains, IsLabel, label_at}
-use Rattle.walk_rules.proofs.Options.{some_or_none}
 use Rattle.alt_search.proofs.Listed.{within}
 use Rattle.landmark_prep.specs.Packing.{Labels}
-use Rattle.landmark_prep.specs.Preparations.{AreLabelsOf, Preparation, grain_of, IsPrepOf}
+use Rattle.landmark_prep.specs.Preparations.{AreLabelsOf, Preparation, IsPrepOf}
 use Rattle.landmark_prep.specs.Bounds.{labels_at}
 use Rattle.byteorder.specs.Endian.{big_bytes}
 use Rattle.traffic_core.specs.Lands.{Land, rule_alone}

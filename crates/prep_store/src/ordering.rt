@@ -62,7 +62,9 @@ fn label_after(grain: u64, label: u16, weight: u64) -> u16
     requires { 1 ≤ grain }
     ensures { result ≡ spec.label_after grain label weight }
 {
-    u64::from(label).saturating_add(weight / grain).min(MOST_GRAINS) as u16
+    u64::from(label)
+        .saturating_add(weight / grain)
+        .min(MOST_GRAINS) as u16
 }
 
 /// Where an item stands among the next: by its label, then by its number.

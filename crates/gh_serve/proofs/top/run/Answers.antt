@@ -39,4 +39,4 @@ returns-in-Ok-Prep-clause-prepared_complete g c =
 
 pub returns-in-Ok-Check-clause-checked_complete : goal.returns-in-Ok-Check-clause-checked_complete
 returns-in-Ok-Check-clause-checked_complete g c =
-    rw (c.in-Ok-Check.ensures.request, c.in-Ok-Check.field-0-is) (checks_complete c.faults_are_of_no_store.ensures c.check_map.result c.in-Ok-Check.form _ _ _ _ _ _ _ _ _ _ c.check_map.ensures.statuses c.check_map.ensures.map c.check_map.ensures.store c.check_map.ensures.open c.check_map.ensures.read_map c.check_map.ensures.read_store c.check_map.ensures.write)
+    rw (c.in-Ok-Check.ensures.request, c.in-Ok-Check.field-0-is) (checks_complete c.check_map.result c.in-Ok-Check.form _ _ _ _ _ _ _ _ _ _ c.check_map.ensures.statuses c.check_map.ensures.map c.check_map.ensures.store c.check_map.ensures.open c.check_map.ensures.read_map c.check_map.ensures.read_store c.check_map.ensures.write)

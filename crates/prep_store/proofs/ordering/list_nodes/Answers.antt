@@ -1,4 +1,4 @@
-use Rattle.std.proofs.Common.{◌≡◌, ◌<◌, ◌≤◌, ◌+◌, ◌-◌, ◌∙◌, None, ◌++◌, ◌∷◌, [], ℕ, List, Option, length, length-set, length-append, sym, subst, ap, refl, arith}
+use Rattle.std.proofs.Common.{◌≡◌, ◌+◌, ◌∙◌, None, ◌++◌, ◌∷◌, [], ℕ, List, Option, length, length-set, length-append, sym, subst, ap, refl, arith}
 use Rattle.std.specs.Prelude.{slice_set}
 use Rattle.std.proofs.lemmas.List.{length-replicate}
 use Rattle.gh_base.specs.declared.edges.NodeId.{NodeId}
@@ -7,7 +7,6 @@ use Rattle.walk_rules.specs.Walks.{hops_from}
 use Rattle.prep_store.specs.declared.item.Item.{Item}
 use Rattle.prep_store.specs.Steps.{Listed}
 use Rattle.prep_store.specs.Ordering.{told_label, IsOpen, IsOpenBut, IsUnderway}
-use Rattle.prep_store.specs.Writing.{IsNext}
 use Rattle.prep_store.proofs.Candidates.{candidate_fits, listed_next}
 use Rattle.prep_store.proofs.Underway.{popped, underway_first, underway_more, underway_end, fewer_left, room_left}
 use Rattle.prep_store.proofs.ordering.list_nodes.Goals as goal
@@ -21,10 +20,10 @@ nodes-init g c =
     let count : c.node_count-count.result ≡ network.nodes = c.node_count-count.ensures ∙ ap (λ (n : Network). n.nodes) c.again-roads.ensures.network in
     let empty : c.in_ok-listing.listing ≡ record { nodes = network.nodes; items = [] } = c.in_ok-listing.ensures ∙ ap (λ (n : ℕ). record { nodes = n; items = [] }) count in
     let listing : c.list_next.new.listing ≡ record { nodes = network.nodes; items = first ∷ [] } =
-        e.listed ∙ ap (λ (v : Listed). record { nodes = v.nodes; items = v.items ++ first ∷ [] }) empty in
+    e.listed ∙ ap (λ (v : Listed). record { nodes = v.nodes; items = v.items ++ first ∷ [] }) empty in
     let keyed : IsOpen network c.args.grain labels (first ∷ []) c.list_next.new.queue =
-        subst (λ (v : Listed). IsOpen network c.args.grain labels (v.items ++ first ∷ []) c.list_next.new.queue) empty
-        (subst (λ (n : Network). IsOpen n c.args.grain labels (c.in_ok-listing.listing.items ++ first ∷ []) c.list_next.new.queue) c.again-roads.ensures.network e.keyed) in
+    subst (λ (v : Listed). IsOpen network c.args.grain labels (v.items ++ first ∷ []) c.list_next.new.queue) empty
+    (subst (λ (n : Network). IsOpen n c.args.grain labels (c.in_ok-listing.listing.items ++ first ∷ []) c.list_next.new.queue) c.again-roads.ensures.network e.keyed) in
     record {
       same = e.network ∙ c.again-roads.ensures.network;
       underway = subst (λ (v : Listed). IsUnderway network c.args.grain c.args.landmark.0 labels (g.V.RoadView.starts c.list_next.new.view) v c.list_next.new.queue) (sym listing)
@@ -41,7 +40,7 @@ list_next-requires-in-Some-clause-label g c =
     let u = c.nodes.invariant.underway in
     let e = c.in-Some.ensures in
     let next = popped network c.args.grain labels c.nodes.listing.items c.nodes.queue c.item_of-item.result c.in-Some.node c.in-Some.key (g.met.V.RoadView.leads c.args.view.now) u.few u.keyed
-        e.found e.least c.item_of-item.ensures.node c.item_of-item.ensures.label in
+    e.found e.least c.item_of-item.ensures.node c.item_of-item.ensures.label in
     let fits = candidate_fits network c.args.grain labels c.nodes.listing.items c.item_of-item.result (g.met.V.RoadView.leads c.args.view.now) next.candidate in
     omega (arith, fits.1)
 
@@ -52,7 +51,7 @@ list_next-requires-in-Some-clause-new g c =
     let u = c.nodes.invariant.underway in
     let e = c.in-Some.ensures in
     let next = popped network c.args.grain labels c.nodes.listing.items c.nodes.queue c.item_of-item.result c.in-Some.node c.in-Some.key (g.met.V.RoadView.leads c.args.view.now) u.few u.keyed
-        e.found e.least c.item_of-item.ensures.node c.item_of-item.ensures.label in
+    e.found e.least c.item_of-item.ensures.node c.item_of-item.ensures.label in
     next.candidate.new
 
 pub list_next-requires-in-Some-clause-keyed : goal.list_next-requires-in-Some-clause-keyed
@@ -74,10 +73,10 @@ nodes-smaller g c =
     let u = c.nodes.invariant.underway in
     let e = c.in-Some.ensures in
     let next = popped network c.args.grain labels c.nodes.listing.items c.nodes.queue c.item_of-item.result c.in-Some.node c.in-Some.key (g.met.V.RoadView.leads c.args.view.now) u.few u.keyed
-        e.found e.least c.item_of-item.ensures.node c.item_of-item.ensures.label in
+    e.found e.least c.item_of-item.ensures.node c.item_of-item.ensures.label in
     let fits = candidate_fits network c.args.grain labels c.nodes.listing.items c.item_of-item.result (g.met.V.RoadView.leads c.args.view.now) next.candidate in
     let longer : length c.list_next-in-Some.new.listing.items ≡ length c.nodes.listing.items + 1 =
-        ap (λ (v : Listed). length v.items) c.in_ok-list_next-2.ensures.listed ∙ length-append c.nodes.listing.items (c.item_of-item.result ∷ []) in
+    ap (λ (v : Listed). length v.items) c.in_ok-list_next-2.ensures.listed ∙ length-append c.nodes.listing.items (c.item_of-item.result ∷ []) in
     fewer_left network.nodes (length c.nodes.listing.items) _ longer
     (room_left c.nodes.listing.items c.item_of-item.result network.nodes fits.0 next.candidate.new u.counted)
 
@@ -91,7 +90,7 @@ nodes-preserved g c =
     let e = c.in-Some.ensures in
     let f = c.in_ok-list_next-2.ensures in
     let next = popped network c.args.grain labels c.nodes.listing.items c.nodes.queue item c.in-Some.node c.in-Some.key (g.met.V.RoadView.leads c.args.view.now) u.few u.keyed
-        e.found e.least c.item_of-item.ensures.node c.item_of-item.ensures.label in
+    e.found e.least c.item_of-item.ensures.node c.item_of-item.ensures.label in
     let fits = candidate_fits network c.args.grain labels c.nodes.listing.items item (g.met.V.RoadView.leads c.args.view.now) next.candidate in
     record {
       same = f.network ∙ i.same;

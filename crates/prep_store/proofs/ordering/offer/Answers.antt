@@ -1,6 +1,5 @@
 use Rattle.std.proofs.Common.{refl, sym, ap, ◌∙◌, inl, ℕ, Some}
 use Rattle.std.specs.Prelude.{slice_set}
-use Rattle.prep_store.specs.Ordering.{key_of}
 use Rattle.prep_store.proofs.Candidates.{no_some_test}
 use Rattle.prep_store.proofs.ordering.offer.Goals as goal
 

@@ -1,4 +1,4 @@
-use Rattle.std.proofs.Common.{ℕ, ◌≡◌, ◌<◌, Option, List, Contains, length, length-set, sym, subst, ap, ◌∙◌, refl, arith}
+use Rattle.std.proofs.Common.{◌<◌, List, Contains, sym, subst, ◌∙◌, refl, arith}
 use Rattle.gh_base.specs.declared.edges.Hop.{Hop}
 use Rattle.walk_rules.specs.Walks.{hops_from}
 use Rattle.prep_store.specs.Ordering.{told_label, IsOpenBut}

@@ -1,4 +1,4 @@
-use Rattle.std.proofs.Common.{◌≡◌, ◌+◌, ◌<◌, ℕ, length, Contains}
+use Rattle.std.proofs.Common.{◌≡◌, ◌+◌, length, Contains}
 use Rattle.gh_base.specs.declared.edges.Hop.{Hop}
 use Rattle.walk_rules.specs.Walks.{hops_from}
 use Rattle.prep_store.specs.Ordering.{told_label, IsOpenBut}

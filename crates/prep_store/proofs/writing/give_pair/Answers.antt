@@ -25,10 +25,10 @@ returns-in_err-give_side-clause-err g c =
     let landmark = c.landmark_at-landmark.result.0 in
     let prep = c.args.prep.now in
     on_err c.from_residual.result (λ node lists e listings.
-        let same : node ≡ landmark = same_node node landmark (sym e ∙ c.landmark_at-landmark.ensures) in
-        let from : IsListing (g.V.RoadView.network c.args.out.now) prep.grain landmark (told_label prep c.args.place false) lists.from =
-            subst (λ (n : ℕ). IsListing (g.V.RoadView.network c.args.out.now) prep.grain n (told_label prep c.args.place false) lists.from) same listings.from in
-        front_wide (g.K.Sink.held c.args.sink.now) (g.K.Sink.held c.give_side.new.sink) (list_text lists.from) (list_text lists.to) (c.in_err-give_side.ensures.err lists.from from))
+    let same : node ≡ landmark = same_node node landmark (sym e ∙ c.landmark_at-landmark.ensures) in
+    let from : IsListing (g.V.RoadView.network c.args.out.now) prep.grain landmark (told_label prep c.args.place false) lists.from =
+    subst (λ (n : ℕ). IsListing (g.V.RoadView.network c.args.out.now) prep.grain n (told_label prep c.args.place false) lists.from) same listings.from in
+    front_wide (g.K.Sink.held c.args.sink.now) (g.K.Sink.held c.give_side.new.sink) (list_text lists.from) (list_text lists.to) (c.in_err-give_side.ensures.err lists.from from))
 
 pub returns-clause-ok : goal.returns-clause-ok
 returns-clause-ok g c =
@@ -36,11 +36,12 @@ returns-clause-ok g c =
     let prep = c.args.prep.now in
     let f = c.in_ok-give_side.ensures.ok in
     map_ok c.give_side-2.result (λ s.
-        let lists : Lists = record { from = f.0; to = s.0 } in
-        (lists,
-        λ node e. subst (λ (n : ℕ). AreListings (g.V.RoadView.network c.args.out.now) (g.W.RoadView.network c.args.back.now) prep.grain n (labels_at prep.labels c.args.place) lists)
-            (same_node landmark node (sym c.landmark_at-landmark.ensures ∙ e)) (record { from = f.1; to = s.1 }),
-        Appends-trans (g.K.Sink.held c.args.sink.now) (g.K.Sink.held c.give_side.new.sink) (g.K.Sink.held c.give_side-2.new.sink) (list_text f.0) (list_text s.0) f.2 s.2))
+    let lists : Lists = record { from = f.0; to = s.0 } in (
+      lists,
+      λ node e. subst (λ (n : ℕ). AreListings (g.V.RoadView.network c.args.out.now) (g.W.RoadView.network c.args.back.now) prep.grain n (labels_at prep.labels c.args.place) lists)
+          (same_node landmark node (sym c.landmark_at-landmark.ensures ∙ e)) (record { from = f.1; to = s.1 }),
+      Appends-trans (g.K.Sink.held c.args.sink.now) (g.K.Sink.held c.give_side.new.sink) (g.K.Sink.held c.give_side-2.new.sink) (list_text f.0) (list_text s.0) f.2 s.2,
+    ))
     c.give_side-2.ensures.ok
 
 pub returns-clause-err : goal.returns-clause-err
@@ -52,12 +53,12 @@ returns-clause-err g c =
     let mid = g.K.Sink.held c.give_side.new.sink in
     let new = g.K.Sink.held c.give_side-2.new.sink in
     map_err c.give_side-2.result (λ failed node lists e listings.
-        let same : node ≡ landmark = same_node node landmark (sym e ∙ c.landmark_at-landmark.ensures) in
-        let from : IsListing (g.V.RoadView.network c.args.out.now) prep.grain landmark (told_label prep c.args.place false) lists.from =
-            subst (λ (n : ℕ). IsListing (g.V.RoadView.network c.args.out.now) prep.grain n (told_label prep c.args.place false) lists.from) same listings.from in
-        let to : IsListing (g.W.RoadView.network c.args.back.now) prep.grain landmark (told_label prep c.args.place true) lists.to =
-            subst (λ (n : ℕ). IsListing (g.W.RoadView.network c.args.back.now) prep.grain n (told_label prep c.args.place true) lists.to) same listings.to in
-        let first : f.0 ≡ lists.from = listing_one (g.V.RoadView.network c.args.out.now) prep.grain landmark (told_label prep c.args.place false) f.0 lists.from f.1 from in
-        second_failed old mid new (list_text f.0) [] (list_text lists.to) (pair_text lists) (sends_all old mid (list_text f.0) f.2) (failed lists.to to)
-        (ap (λ (xs : List Item). list_text xs ++ list_text lists.to) first))
+    let same : node ≡ landmark = same_node node landmark (sym e ∙ c.landmark_at-landmark.ensures) in
+    let from : IsListing (g.V.RoadView.network c.args.out.now) prep.grain landmark (told_label prep c.args.place false) lists.from =
+    subst (λ (n : ℕ). IsListing (g.V.RoadView.network c.args.out.now) prep.grain n (told_label prep c.args.place false) lists.from) same listings.from in
+    let to : IsListing (g.W.RoadView.network c.args.back.now) prep.grain landmark (told_label prep c.args.place true) lists.to =
+    subst (λ (n : ℕ). IsListing (g.W.RoadView.network c.args.back.now) prep.grain n (told_label prep c.args.place true) lists.to) same listings.to in
+    let first : f.0 ≡ lists.from = listing_one (g.V.RoadView.network c.args.out.now) prep.grain landmark (told_label prep c.args.place false) f.0 lists.from f.1 from in
+    second_failed old mid new (list_text f.0) [] (list_text lists.to) (pair_text lists) (sends_all old mid (list_text f.0) f.2) (failed lists.to to)
+    (ap (λ (xs : List Item). list_text xs ++ list_text lists.to) first))
     c.give_side-2.ensures.err
