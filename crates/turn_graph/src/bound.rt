@@ -10,8 +10,8 @@ use crate::state::{State, end_of, state_by};
 use base_graph::BaseGraph;
 use gh_base::{NodeId, Potential};
 
-/// A potential of towers, at what was passed: its number at the end of the directed edge, at the start
-/// that of the tower `from`, and at the target 0.
+/// A potential of towers, at what was passed: its number at the end of the directed edge, at the
+/// start that of the tower `from`, and at the target 0.
 #[derive(Drop)]
 pub struct TurnPotential<'a, P: Potential> {
     inner: P,
@@ -22,11 +22,20 @@ pub struct TurnPotential<'a, P: Potential> {
 impl<'a, P: Potential> TurnPotential<'a, P> {
     /// It takes no memory.
     pub fn new(inner: P, graph: &'a BaseGraph, from: NodeId) -> TurnPotential<'a, P>
-        ensures is { ⟦<TurnPotential<'a, P> as Potential>⟧.bound result ≡ bound_by (P.bound inner) graph.now.lists from.0 }
-        // Whichever turns are banned, it is feasible by states where `inner` is feasible to the last tower.
-        ensures feasible { (base : Network) (is_banned : DirEdge → DirEdge → Bool) (to : ℕ) → IsOver graph.now.lists base →
+        ensures is { ⟦<TurnPotential<'a, P> as Potential>⟧.bound result
+            ≡ bound_by (P.bound inner) graph.now.lists from.0 }
+        // Whichever turns are banned, it is feasible by states where `inner` is feasible to the
+        // last tower.
+        ensures feasible { (base : Network) (is_banned : DirEdge → DirEdge → Bool) (to : ℕ) →
+            IsOver graph.now.lists base →
             IsFeasible base (P.bound inner) to →
-            IsFeasible (by_states (record { base = base; graph = graph.now.lists; is_banned = is_banned; from = from.0; to = to }))
+            IsFeasible (by_states (record {
+              base = base;
+              graph = graph.now.lists;
+              is_banned = is_banned;
+              from = from.0;
+              to = to;
+            }))
             (⟦<TurnPotential<'a, P> as Potential>⟧.bound result) (target_in graph.now.lists) }
     {
         TurnPotential { inner, graph, from }

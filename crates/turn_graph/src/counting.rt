@@ -50,7 +50,8 @@ fn put(alloc: Global, rows: &mut HashMap<i64, Row>, turn: Turn) -> Result<(), No
 
 /// The restrictions by the node that they are over, for each node in their order.
 pub(crate) fn by_node(alloc: Global, turns: &[Turn]) -> Result<HashMap<i64, Row>, NoMemory>
-    ensures { IfOk result (λ rows. (id : ℤ) → turns_in (get int_eq rows id) ≡ filter (λ turn. int_eq id turn.via) turns.now) }
+    ensures { IfOk result (λ rows. (id : ℤ) → turns_in (get int_eq rows id)
+        ≡ filter (λ turn. int_eq id turn.via) turns.now) }
 {
     let mut rows = HashMap::new(alloc);
     for turn in turns {
@@ -93,7 +94,8 @@ fn counting(
 ) -> Result<Row, NoMemory>
     requires tower { tower.0 < length graph.now.lists.places }
     requires ways { length ways.now ≡ length graph.now.lists.edges }
-    ensures { IfOk result (λ row. row ≡ filter (counts_by ways.now (around_of graph.now.lists tower.0)) turns.now) }
+    ensures { IfOk result (λ row. row
+        ≡ filter (counts_by ways.now (around_of graph.now.lists tower.0)) turns.now) }
 {
     let mut kept = Vec::new(alloc);
     for turn in turns {
@@ -127,7 +129,8 @@ pub(crate) fn row_of(
 ) -> Result<Row, NoMemory>
     requires tower { tower.0 < length roads.now.graph.lists.places }
     requires ways { length ways.now ≡ length roads.now.graph.lists.edges }
-    ensures { IfOk result (λ row. row ≡ filter (counts_by ways.now (around_of roads.now.graph.lists tower.0))
+    ensures { IfOk result (λ row. row
+        ≡ filter (counts_by ways.now (around_of roads.now.graph.lists tower.0))
         (standing_at (get int_eq standing.now) (slice_get roads.now.ids tower.0))) }
 {
     let turns = standing_at(standing, roads.ids.as_slice(), tower);

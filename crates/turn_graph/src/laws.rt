@@ -7,5 +7,6 @@ ghost use Rattle.turn_graph.specs.States.{walk_by_states};
 /// A walk weighs by states what it weighs from tower to tower.
 #[tactic(auto, using(crate::proofs::Passing::same_weight))]
 pub fn walks_by_states_weigh_the_same()
-    ensures { (edges : ℕ) (walk : List Hop) → weight_of (walk_by_states edges walk) ≡ weight_of walk }
+    ensures { (edges : ℕ) (walk : List Hop) →
+        weight_of (walk_by_states edges walk) ≡ weight_of walk }
 {}

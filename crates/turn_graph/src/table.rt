@@ -27,8 +27,8 @@ impl<'a> Model for TurnTable<'a> {
 }
 
 impl<'a> TurnTable<'a> {
-    /// Keeps of the restrictions of a map those that count on its roads. `ways` has the id of the way of
-    /// each edge.
+    /// Keeps of the restrictions of a map those that count on its roads. `ways` has the id of
+    /// the way of each edge.
     pub fn new(
         alloc: Global,
         turns: &TurnList,
@@ -36,7 +36,9 @@ impl<'a> TurnTable<'a> {
         roads: &Roads,
     ) -> Result<TurnTable<'a>, NoMemory>
         requires { length ways.now ≡ length roads.now.graph.lists.edges }
-        ensures kept { IfOk result (λ table. IsTableOf (record { graph = roads.now.graph.lists; ids = roads.now.ids; ways = ways.now }) turns.now table) }
+        ensures kept { IfOk result (λ table. IsTableOf
+            (record { graph = roads.now.graph.lists; ids = roads.now.ids; ways = ways.now })
+            turns.now table) }
         ensures suits { IfOk result (λ table. IsFor roads.now.graph.lists table) }
     {
         let standing = by_node(alloc, turns.as_slice())?;

@@ -1,8 +1,8 @@
 //! Restrictions of turns, as a map has them.
 use gh_base::Sequence;
 
-/// Who comes by the way `from` over the node `via` must not go on by the way `to`; or, with `only`, must
-/// go on by no other. All three are ids.
+/// Who comes by the way `from` over the node `via` must not go on by the way `to`; or, with `only`,
+/// must go on by no other. All three are ids.
 #[derive(Clone, Copy, Debug, PartialEq, Eq)]
 pub struct Turn {
     pub from: i64,

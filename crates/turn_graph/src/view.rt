@@ -11,8 +11,9 @@ use crate::table::TurnTable;
 use base_graph::BaseGraph;
 use gh_base::{DirEdge, Hop, NodeId, RoadView};
 
-/// The roads of a base view by what was passed, so that a turn can be banned. With m edges, node `2 * e`
-/// is having passed edge e forward, `2 * e + 1` in reverse, `2 * m` is the start and `2 * m + 1` the target.
+/// The roads of a base view by what was passed, so that a turn can be banned. With m edges, node
+/// `2 * e` is having passed edge e forward, `2 * e + 1` in reverse, `2 * m` is the start and
+/// `2 * m + 1` the target.
 ///
 /// From 0 to 2, where the turn from edge 0 into edge 1 is banned and a way round leads over edge 2:
 ///
@@ -38,8 +39,8 @@ pub struct TurnView<'a, V: RoadView> {
 }
 
 impl<'a, V: RoadView> TurnView<'a, V> {
-    /// The view from a tower to another, over a base whose hops are directed edges of the graph. It takes
-    /// no memory.
+    /// The view from a tower to another, over a base whose hops are directed edges of the graph. It
+    /// takes no memory.
     pub fn new(
         base: V,
         graph: &'a BaseGraph,
@@ -50,12 +51,15 @@ impl<'a, V: RoadView> TurnView<'a, V> {
         requires over { IsOver graph.now.lists (V.network base) }
         requires suits { IsFor graph.now.lists turns.now }
         requires from { from.0 < length graph.now.lists.places }
-        ensures network { ⟦<TurnView<'a, V> as RoadView>⟧.network result ≡ by_states (trip_by (V.network base) graph.now.lists turns.now from.0 to.0) }
+        ensures network { ⟦<TurnView<'a, V> as RoadView>⟧.network result
+            ≡ by_states (trip_by (V.network base) graph.now.lists turns.now from.0 to.0) }
         // Between two towers, its walks from the start to the target are the turn walks, by states.
         ensures walks { (ids : List ℤ) (all : List Turn) (hops : List Hop) → from.0 ≢ to.0 →
             IsTableOf (streets_for graph.now.lists ids turns.now) all turns.now →
-            IsWalk (⟦<TurnView<'a, V> as RoadView>⟧.network result) (start_in graph.now.lists) hops (target_in graph.now.lists)
-            ↔ AreOfTurnWalk (V.network base) (streets_for graph.now.lists ids turns.now) all from.0 to.0 hops }
+            IsWalk (⟦<TurnView<'a, V> as RoadView>⟧.network result)
+            (start_in graph.now.lists) hops (target_in graph.now.lists)
+            ↔ AreOfTurnWalk (V.network base) (streets_for graph.now.lists ids turns.now)
+            all from.0 to.0 hops }
         // It begins with the base's count, which each start at the target raises too.
         ensures starts { ⟦<TurnView<'a, V> as RoadView>⟧.starts result ≡ V.starts base }
         ensures left { ⟦<TurnView<'a, V> as RoadView>⟧.left result ≡ [] }
@@ -79,13 +83,17 @@ impl<'a, V: RoadView> RoadView for TurnView<'a, V> {
     ghost use Rattle.turn_graph.specs.States.{trip_by, by_states, left_at};
     ghost use Rattle.turn_graph.specs.Leading.{states_lead};
 
-    ghost network = { λ view. by_states (trip_by (V.network view.base) view.graph.now.lists view.turns.now view.from.0 view.to.0) };
+    ghost network = { λ view. by_states
+        (trip_by (V.network view.base) view.graph.now.lists view.turns.now view.from.0 view.to.0) };
 
     ghost starts = { λ view. V.starts view.base + view.own_starts };
 
-    ghost left = { λ view. left_at (is_banned view.graph.now.lists view.turns.now) (length view.graph.now.lists.edges) view.state view.arrives (V.left view.base) };
+    ghost left = { λ view. left_at (is_banned view.graph.now.lists view.turns.now)
+        (length view.graph.now.lists.edges) view.state view.arrives (V.left view.base) };
 
-    ghost leads = { λ view. states_lead (trip_by (V.network view.base) view.graph.now.lists view.turns.now view.from.0 view.to.0) view.over };
+    ghost leads = { λ view. states_lead
+        (trip_by (V.network view.base) view.graph.now.lists view.turns.now view.from.0 view.to.0)
+        view.over };
 
     fn node_count(&self) -> u32 {
         2 * self.graph.edge_count() + 2

@@ -6,7 +6,8 @@ ghost use Rattle.weighting.specs.Rules.{Rule};
 ghost use Rattle.weighting.specs.Roads.{network_by};
 ghost use Rattle.turn_graph.specs.States.{IsOver};
 
-/// Roads as a rule weighs them are over the directed edges of their graph, so that turns can be told.
+/// Roads as a rule weighs them are over the directed edges of their graph, so that turns can be
+/// told.
 pub fn weighed_roads_are_over()
     ensures { (rule : Rule) (limits : DirEdge → ℕ) (graph : Graph) → IsGraph graph →
         IsOver graph (network_by rule limits graph) }

@@ -18,8 +18,8 @@ use gh_base::{Hops, NoMemory, NodeId, Potential, RoadView};
 use std::alloc::Global;
 use turn_graph::{TurnPotential, TurnTable, TurnView};
 
-/// A least walk with no banned turn from a tower to another, over a base whose hops are directed edges of
-/// the graph, looking ahead by a potential of towers.
+/// A least walk with no banned turn from a tower to another, over a base whose hops are directed
+/// edges of the graph, looking ahead by a potential of towers.
 ///
 /// `settled` counts the states that the search started at: none where both towers are one.
 pub fn search_turns<V: RoadView + Drop, P: Potential + Drop>(
@@ -37,18 +37,23 @@ pub fn search_turns<V: RoadView + Drop, P: Potential + Drop>(
     requires count { V.starts base ≤ 2 ^ 63 }
 
     // What is given is a turn walk of that weight.
-    ensures walk { (ids : List ℤ) (all : List Turn) → IsTableOf (streets_for graph.now.lists ids turns.now) all turns.now →
+    ensures walk { (ids : List ℤ) (all : List Turn) →
+        IsTableOf (streets_for graph.now.lists ids turns.now) all turns.now →
         IfOk result (λ found. IfWalk found (λ hops weight _.
         IsTurnWalk (V.network base) (streets_for graph.now.lists ids turns.now) all from.0 hops to.0
         × (weight_of hops ≡ weight))) }
 
     // Where the potential is feasible, no turn walk weighs less.
-    ensures least { (ids : List ℤ) (all : List Turn) → IsTableOf (streets_for graph.now.lists ids turns.now) all turns.now →
-        IsFeasible (V.network base) (P.bound inner) to.0 → IfOk result (λ found. IfWalk found (λ _ weight _.
-        IsAtMostEachTurnWalk (V.network base) (streets_for graph.now.lists ids turns.now) all from.0 to.0 weight)) }
+    ensures least { (ids : List ℤ) (all : List Turn) →
+        IsTableOf (streets_for graph.now.lists ids turns.now) all turns.now →
+        IsFeasible (V.network base) (P.bound inner) to.0 →
+        IfOk result (λ found. IfWalk found (λ _ weight _.
+        IsAtMostEachTurnWalk (V.network base) (streets_for graph.now.lists ids turns.now)
+        all from.0 to.0 weight)) }
 
     // None is given exactly where there is none.
-    ensures none { (ids : List ℤ) (all : List Turn) → IsTableOf (streets_for graph.now.lists ids turns.now) all turns.now →
+    ensures none { (ids : List ℤ) (all : List Turn) →
+        IsTableOf (streets_for graph.now.lists ids turns.now) all turns.now →
         IsFeasible (V.network base) (P.bound inner) to.0 → IfOk result (λ found. IsNoWalk found
         ↔ NoTurnWalk (V.network base) (streets_for graph.now.lists ids turns.now) all from.0 to.0) }
 
@@ -94,8 +99,10 @@ fn search_states<V: RoadView + Drop, P: Potential + Drop>(
     requires suits { IsFor graph.now.lists turns.now }
     requires from { from.0 < length graph.now.lists.places }
     requires count { V.starts base ≤ 2 ^ 63 }
-    ensures { IfOk result (IsFoundIn (by_states (trip_by (V.network base) graph.now.lists turns.now from.0 to.0))
-        (bound_by (P.bound inner) graph.now.lists from.0) (start_in graph.now.lists) (target_in graph.now.lists)
+    ensures { IfOk result (IsFoundIn
+        (by_states (trip_by (V.network base) graph.now.lists turns.now from.0 to.0))
+        (bound_by (P.bound inner) graph.now.lists from.0)
+        (start_in graph.now.lists) (target_in graph.now.lists)
         (IsFeasible (V.network base) (P.bound inner) to.0)) }
 {
     let mut view = TurnView::new(base, graph, turns, from, to);
@@ -112,7 +119,8 @@ fn search_states<V: RoadView + Drop, P: Potential + Drop>(
 
 /// What was found by states, from tower to tower.
 fn by_towers(alloc: Global, graph: &BaseGraph, found: Found) -> Result<Found, NoMemory>
-    requires { IfWalk found (λ hops _ _. All (λ hop. hop.by.edge.0 < length graph.now.lists.edges) hops) }
+    requires { IfWalk found (λ hops _ _.
+        All (λ hop. hop.by.edge.0 < length graph.now.lists.edges) hops) }
     ensures { IfOk result (IsByTowers graph.now.lists found) }
 {
     match found {

@@ -68,7 +68,8 @@ fn relation_word(alloc: Global, s: RelationSoFar, word: &str) -> Result<Relation
 }
 
 fn all_words(alloc: Global, words: Option<&str>) -> Result<RelationSoFar, WordFault>
-    ensures { Gives result (relation_words nothing (parts_left 32 (option_map (λ t. t.now) words.entry))) }
+    ensures { Gives result
+        (relation_words nothing (parts_left 32 (option_map (λ t. t.now) words.entry))) }
 {
     let mut s = RelationSoFar {
         tags: None,
