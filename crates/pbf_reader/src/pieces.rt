@@ -28,11 +28,7 @@ pub fn holds_bytes(number: u64, spot: &Spot) -> bool
 }
 
 /// Where the bytes of a number stand.
-pub fn pieces(
-    alloc: Global,
-    number: u64,
-    fields: &[Spot],
-) -> Result<Sequence<Piece>, NoMemory>
+pub fn pieces(alloc: Global, number: u64, fields: &[Spot]) -> Result<Sequence<Piece>, NoMemory>
     ensures { IfOk result (λ p. p ≡ pieces_of number fields.now) }
 {
     let mut found = Sequence::new(alloc);

@@ -1,6 +1,6 @@
 //! Restrictions among the relations of a PBF file.
-use pbf_wire::{put_bytes, put_varint};
 use gh_base::NoMemory;
+use pbf_wire::{put_bytes, put_varint};
 use std::alloc::Global;
 use std::test::Fail;
 use turn_pbf::read_pbf_turns;
@@ -9,7 +9,12 @@ use turn_pbf::read_pbf_turns;
 const DATASIZE: u64 = 24;
 
 /// Appends a Blob of a type, behind its header.
-fn put_blob(alloc: Global, file: &mut Vec<u8>, name: &[u8], content: &[u8]) -> Result<(), NoMemory> {
+fn put_blob(
+    alloc: Global,
+    file: &mut Vec<u8>,
+    name: &[u8],
+    content: &[u8],
+) -> Result<(), NoMemory> {
     let mut blob = Vec::new(alloc);
     put_bytes(&mut blob, 1, content)?;
     let mut header = Vec::new(alloc);
@@ -54,7 +59,10 @@ fn a_relation_of_a_file_is_a_restriction(rt: HostRuntime) -> Result<(), Fail> {
     let alloc = rt.alloc();
     let turns = read_pbf_turns(alloc, &file_with(alloc, &RELATION)?)?;
     match turns.as_slice() {
-        [turn] => assert_eq!(rt; (turn.from, turn.via, turn.to, turn.only), (10, 2, 11, false)),
+        [turn] => assert_eq!(rt;
+            (turn.from, turn.via, turn.to, turn.only),
+            (10, 2, 11, false)
+        ),
         _ => assert!(rt; false),
     }
     Ok(())
