@@ -46,7 +46,8 @@ fn is_header(file: &[u8], name: Piece) -> bool
     part(file, name.start, name.end) == b"OSMHeader".as_slice()
 }
 
-fn is_data(file: &[u8], name: Piece) -> bool
+/// Whether the Blob that a header of this name announces has nodes, ways and relations.
+pub fn is_data(file: &[u8], name: Piece) -> bool
     ensures { result ≡ is_named (codes "OSMData") file.now name }
 {
     part(file, name.start, name.end) == b"OSMData".as_slice()
@@ -54,7 +55,7 @@ fn is_data(file: &[u8], name: Piece) -> bool
 
 /// The BlobHeader whose length stands at a place.
 #[tactic(auto, unfolding(pbf_wire::specs::Blobs::header_at))]
-pub(crate) fn read_header(
+pub fn read_header(
     alloc: Global,
     file: &[u8],
     first: bool,
@@ -117,7 +118,7 @@ fn last_of_content(fields: &[Spot]) -> Option<Spot>
 
 /// Where the content of the Blob between two places stands.
 #[tactic(auto, unfolding(pbf_wire::specs::Blobs::content_at))]
-fn read_content(alloc: Global, file: &[u8], start: usize, end: usize) -> Result<Piece, PbfFault>
+pub fn read_content(alloc: Global, file: &[u8], start: usize, end: usize) -> Result<Piece, PbfFault>
     ensures { Gives result (content_at file.now start end) }
 {
     let run = read_run(alloc, before(file, end), start)?;

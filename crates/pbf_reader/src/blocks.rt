@@ -78,7 +78,7 @@ pub(crate) fn text_of(bytes: &[u8]) -> Option<&str>
 
 /// The strings of a table.
 #[tactic(auto, using(crate::proofs::Fronts::front_more, crate::proofs::Fronts::front_nil))]
-fn read_texts(
+pub fn read_texts(
     alloc: Global,
     table: &[u8],
     pieces: &[Piece],

@@ -16,7 +16,7 @@ const END_OF_IDS: u64 = 1_000_000_000_000_000_000;
 const NANO_OF_UNIT: i128 = 100;
 
 /// A number with a sign: 0, -1, 1, -2, 2 and so on.
-pub(crate) fn zigzag(n: u64) -> i64
+pub fn zigzag(n: u64) -> i64
     ensures { result ≡ zigzag_of n }
 {
     if n % 2 == 0 {

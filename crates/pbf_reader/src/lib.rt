@@ -19,6 +19,13 @@ mod reading;
 mod runs;
 mod ways;
 
+pub use blobs::{is_data, read_content, read_header};
+pub use blocks::read_texts;
+pub use deltas::zigzag;
 pub use fault::PbfFault;
 pub use gh_base::PbfKind;
+pub use lists::list_of;
+pub use pieces::{holds_bytes, join, pieces as pieces_under, scalar};
 pub use reading::read_pbf;
+pub use runs::{before, read_run};
+pub use ways::{made_tags, text_of_index};

@@ -48,7 +48,7 @@ fn add_values(out: &mut Values, bytes: &[u8], number: u64, spot: &Spot) -> Resul
 }
 
 /// The list of a number in these fields.
-pub(crate) fn list_of(
+pub fn list_of(
     alloc: Global,
     bytes: &[u8],
     number: u64,

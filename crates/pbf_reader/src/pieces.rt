@@ -8,7 +8,7 @@ use pbf_wire::{Piece, Spot};
 use std::alloc::Global;
 
 /// The last varint of a number.
-pub(crate) fn scalar(number: u64, fields: &[Spot]) -> Option<u64>
+pub fn scalar(number: u64, fields: &[Spot]) -> Option<u64>
     ensures { result ≡ scalar_of number None fields.now }
 {
     let mut found = None;
@@ -21,18 +21,14 @@ pub(crate) fn scalar(number: u64, fields: &[Spot]) -> Option<u64>
 }
 
 /// Whether a field holds bytes, under this number.
-pub(crate) fn holds_bytes(number: u64, spot: &Spot) -> bool
+pub fn holds_bytes(number: u64, spot: &Spot) -> bool
     ensures { result ≡ is_bytes number spot.now }
 {
     spot.field.number == number && spot.field.wire == 2
 }
 
 /// Where the bytes of a number stand.
-pub(crate) fn pieces(
-    alloc: Global,
-    number: u64,
-    fields: &[Spot],
-) -> Result<Sequence<Piece>, NoMemory>
+pub fn pieces(alloc: Global, number: u64, fields: &[Spot]) -> Result<Sequence<Piece>, NoMemory>
     ensures { IfOk result (λ p. p ≡ pieces_of number fields.now) }
 {
     let mut found = Sequence::new(alloc);
@@ -64,7 +60,7 @@ pub(crate) fn last_of(number: u64, fields: &[Spot]) -> Option<Piece>
 }
 
 /// The bytes of these stretches, one behind another.
-pub(crate) fn join(alloc: Global, bytes: &[u8], pieces: &[Piece]) -> Result<Vec<u8>, NoMemory>
+pub fn join(alloc: Global, bytes: &[u8], pieces: &[Piece]) -> Result<Vec<u8>, NoMemory>
     ensures { IfOk result (λ v. v.items ≡ joined_of bytes.now pieces.now) }
 {
     let mut joined = Vec::new(alloc);

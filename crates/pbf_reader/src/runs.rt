@@ -9,7 +9,7 @@ use std::alloc::Global;
 
 /// The message from a place to the end.
 #[tactic(auto, using(crate::proofs::Fields::start_run, crate::proofs::Fields::more_fields, crate::proofs::Fields::end_fields, crate::proofs::Fields::bad_field))]
-pub(crate) fn read_run(alloc: Global, bytes: &[u8], at: usize) -> Result<Run, NoMemory>
+pub fn read_run(alloc: Global, bytes: &[u8], at: usize) -> Result<Run, NoMemory>
     ensures { IfOk result (λ r. r ≡ run_of bytes.now at) }
 {
     let mut fields = Sequence::new(alloc);
@@ -43,7 +43,7 @@ pub(crate) fn lesser(one: Option<u64>, other: Option<u64>) -> Option<u64>
 }
 
 /// The bytes before a place.
-pub(crate) fn before(bytes: &[u8], end: usize) -> &[u8]
+pub fn before(bytes: &[u8], end: usize) -> &[u8]
     ensures { result.now ≡ take end bytes.now }
 {
     if end < bytes.len() {

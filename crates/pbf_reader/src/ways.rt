@@ -35,7 +35,8 @@ pub(crate) fn read_way(alloc: Global, bytes: &[u8], at: usize) -> Result<Way, No
     })
 }
 
-fn text_of_index(alloc: Global, texts: &[Text], index: u64) -> Result<Option<Text>, NoMemory>
+/// The string of the table that an index names; a uint32 is the low 32 bits.
+pub fn text_of_index(alloc: Global, texts: &[Text], index: u64) -> Result<Option<Text>, NoMemory>
     ensures { IfOk result (λ t. t ≡ text_at texts.now index) }
 {
     match texts.get((index % END_OF_U32) as usize) {
@@ -50,7 +51,7 @@ fn text_of_index(alloc: Global, texts: &[Text], index: u64) -> Result<Option<Tex
 
 /// The tags of these keys and values, by their places in the table.
 #[tactic(auto, using(crate::proofs::Fronts::front_more, crate::proofs::Fronts::front_nil))]
-fn made_tags(
+pub fn made_tags(
     alloc: Global,
     place: u64,
     texts: &[Text],

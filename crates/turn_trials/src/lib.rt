@@ -4,6 +4,8 @@
 #![tactic(auto)]
 
 #[cfg(test)]
+mod turn_pbf_calls;
+#[cfg(test)]
 mod turn_routes_calls;
 #[cfg(test)]
 mod turn_texts_calls;

@@ -1,0 +1,2 @@
+pub mod PbfRelations
+pub mod PbfTurns
