@@ -6,7 +6,7 @@ use Rattle.walk_rules.specs.Walks.{IsWalk, weight_of, IsAtMostEachWalk, NoWalk}
 use Rattle.walk_rules.specs.Starts.{StartsWithin, StartsAtAll}
 use Rattle.base_graph.specs.Graphs.{Graph}
 use Rattle.alt_search.specs.declared.finding.Found.{Found}
-use Rattle.alt_search.specs.declared.finding.Found.TheVariants.{Walk as AWalk, NoWalk as None}
+use Rattle.alt_search.specs.declared.finding.Found.TheVariants.{Walk as AWalk, NoWalk as Barred}
 use Rattle.alt_search.specs.Findings.{IfWalk, IfNoWalk, IsNoWalk}
 use Rattle.turn_graph.specs.Restrictions.{end_of}
 
@@ -34,6 +34,6 @@ pub record IsSameWalk (graph : Graph) (hops_in : List Hop) (weight_in settled_in
 -- the same walk from tower to tower, or none too
 abbrev pub IsByTowers : Graph → Found → Found → Type 0
 IsByTowers graph (AWalk hops weight settled) (AWalk out its_weight its_settled) = IsSameWalk graph hops weight settled out its_weight its_settled
-IsByTowers graph (AWalk hops weight settled) (None its_settled) = ⊥
-IsByTowers graph (None settled) (AWalk out its_weight its_settled) = ⊥
-IsByTowers graph (None settled) (None its_settled) = its_settled ≡ settled
+IsByTowers graph (AWalk hops weight settled) (Barred its_settled) = ⊥
+IsByTowers graph (Barred settled) (AWalk out its_weight its_settled) = ⊥
+IsByTowers graph (Barred settled) (Barred its_settled) = its_settled ≡ settled
