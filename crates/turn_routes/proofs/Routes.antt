@@ -10,7 +10,7 @@ use Rattle.walk_rules.specs.Starts.{StartsWithin, StartsAtAll}
 use Rattle.gh_base.specs.declared.faults.NoMemory.{NoMemory}
 use Rattle.base_graph.specs.Graphs.{Graph}
 use Rattle.alt_search.specs.declared.finding.Found.{Found}
-use Rattle.alt_search.specs.declared.finding.Found.TheVariants.{Walk as AWalk, NoWalk as None}
+use Rattle.alt_search.specs.declared.finding.Found.TheVariants.{Walk as AWalk, NoWalk as Barred}
 use Rattle.alt_search.specs.Findings.{IfWalk, IfNoWalk, IsNoWalk}
 use Rattle.turn_graph.specs.declared.turn.Turn.{Turn}
 use Rattle.turn_graph.specs.Restrictions.{Streets}
@@ -76,25 +76,25 @@ module _ (graph : Graph) (base : Network) (over : IsOver graph base) where
       pub found_walk : (bound : ℕ → Option ℕ) (Feasible : Type 0) (found out : Found) → IsFoundIn network bound start target Feasible found → IsByTowers graph found out →
           IfWalk out (λ hops weight _. IsTurnWalk base streets turns from hops to × (weight_of hops ≡ weight))
       found_walk bound Feasible (AWalk hops weight settled) (AWalk out its_weight its_settled) f b = walk_is hops out its_weight f.walk.0 (f.walk.1 ∙ sym b.weight) b.hops
-      found_walk bound Feasible (AWalk hops weight settled) (None its_settled) f b = absurd b
-      found_walk bound Feasible (None settled) (AWalk out its_weight its_settled) f b = absurd b
-      found_walk bound Feasible (None settled) (None its_settled) f b = tt
+      found_walk bound Feasible (AWalk hops weight settled) (Barred its_settled) f b = absurd b
+      found_walk bound Feasible (Barred settled) (AWalk out its_weight its_settled) f b = absurd b
+      found_walk bound Feasible (Barred settled) (Barred its_settled) f b = tt
 
       pub found_least : (bound : ℕ → Option ℕ) (Feasible : Type 0) (found out : Found) → IsFoundIn network bound start target Feasible found → IsByTowers graph found out → Feasible →
           IfWalk out (λ _ weight _. IsAtMostEachTurnWalk base streets turns from to weight)
       found_least bound Feasible (AWalk hops weight settled) (AWalk out its_weight its_settled) f b is =
           subst (λ (w : ℕ). IsAtMostEachTurnWalk base streets turns from to w) (sym b.weight) (least_is weight (f.least is))
-      found_least bound Feasible (AWalk hops weight settled) (None its_settled) f b is = absurd b
-      found_least bound Feasible (None settled) (AWalk out its_weight its_settled) f b is = absurd b
-      found_least bound Feasible (None settled) (None its_settled) f b is = tt
+      found_least bound Feasible (AWalk hops weight settled) (Barred its_settled) f b is = absurd b
+      found_least bound Feasible (Barred settled) (AWalk out its_weight its_settled) f b is = absurd b
+      found_least bound Feasible (Barred settled) (Barred its_settled) f b is = tt
 
       pub found_none : (bound : ℕ → Option ℕ) (Feasible : Type 0) (found out : Found) → IsFoundIn network bound start target Feasible found → IsByTowers graph found out → Feasible →
           IsNoWalk out ↔ NoTurnWalk base streets turns from to
       found_none bound Feasible (AWalk hops weight settled) (AWalk out its_weight its_settled) f b is =
           (λ no. absurd no, λ n. (f.none is).1 (none_is.1 n))
-      found_none bound Feasible (AWalk hops weight settled) (None its_settled) f b is = absurd b
-      found_none bound Feasible (None settled) (AWalk out its_weight its_settled) f b is = absurd b
-      found_none bound Feasible (None settled) (None its_settled) f b is = (λ no. none_is.0 ((f.none is).0 no), λ n. tt)
+      found_none bound Feasible (AWalk hops weight settled) (Barred its_settled) f b is = absurd b
+      found_none bound Feasible (Barred settled) (AWalk out its_weight its_settled) f b is = absurd b
+      found_none bound Feasible (Barred settled) (Barred its_settled) f b is = (λ no. none_is.0 ((f.none is).0 no), λ n. tt)
 
 -- what a search answers, as its clauses say it
 record Searched (network : Network) (bound : ℕ → Option ℕ) (start target : ℕ) (found : Result Found NoMemory) : Type 0 where
@@ -134,4 +134,4 @@ found_in first network first_bound bound first_start start first_target target F
 pub found_over : (trip : Trip) (bound : ℕ → Option ℕ) (Feasible : Type 0) (found : Found) → IsOver trip.graph trip.base →
     IsFoundIn (by_states trip) bound (start_in trip.graph) (target_in trip.graph) Feasible found → IfWalk found (λ hops _ _. All (λ hop. hop.by.edge.0 < length trip.graph.edges) hops)
 found_over trip bound Feasible (AWalk hops weight settled) over f = hops_over trip over hops (start_in trip.graph) (target_in trip.graph) f.walk.0
-found_over trip bound Feasible (None settled) over f = tt
+found_over trip bound Feasible (Barred settled) over f = tt
