@@ -1,5 +1,6 @@
 //! Weights told of small networks.
-use alt_search::{Adjacency, explore_all, lead_to_rows};
+use crate::sound::are_roads;
+use alt_search::{Adjacency, explore_all};
 use gh_base::{DirEdge, EdgeId, Hop, Hops, NodeId};
 use std::alloc::{AllocError, Global};
 use std::test::Fail;
@@ -26,7 +27,7 @@ fn each_weight_that_there_is_is_told(rt: HostRuntime) -> Result<(), Fail> {
     ]?;
     let rows = rows.as_slice();
     assert_eq!(rt; rows.len(), 4);
-    let leads = lead_to_rows(rows);
+    let leads = are_roads(rows);
     assert!(rt; leads);
     let mut view = Adjacency::new(rows);
     let explored = explore_all(rt.alloc(), &mut view, NodeId(1))?;

@@ -1,5 +1,6 @@
 //! Small networks whose walks are weighed by hand.
-use alt_search::{Adjacency, FlatPotential, Found, ListPotential, lead_to_rows, search};
+use crate::sound::are_roads;
+use alt_search::{Adjacency, FlatPotential, Found, ListPotential, search};
 use gh_base::{DirEdge, EdgeId, Hop, Hops, NoMemory, NodeId, Potential};
 use std::alloc::{AllocError, Global};
 use std::test::Fail;
@@ -29,7 +30,7 @@ fn found<P: Potential>(
     target: u32,
 ) -> Result<Option<(Option<(u128, usize)>, u32)>, NoMemory> {
     let count = rows.len();
-    if count > 100 || start as usize >= count || target as usize >= count || !lead_to_rows(rows) {
+    if count > 100 || start as usize >= count || target as usize >= count || !are_roads(rows) {
         return Ok(None);
     }
     let mut view = Adjacency::new(rows);

@@ -1,5 +1,6 @@
 //! Five nodes in a row, and three of which the last stands alone.
-use alt_search::{Adjacency, FlatPotential, ListPotential, lead_to_rows};
+use crate::sound::are_roads;
+use alt_search::{Adjacency, FlatPotential, ListPotential};
 use gh_base::{DirEdge, EdgeId, Hop, Hops, LabelList, NoMemory, NodeId, Potential};
 use label_certificate::{NodeSet, Refuted, check_none, check_walk, labels_of};
 use std::alloc::{AllocError, Global};
@@ -46,7 +47,7 @@ fn pair_and_one(alloc: Global) -> Result<Vec<Hops>, AllocError> {
 
 /// The verdict on labels of the walk from node 2 to node 4, or `None` where the lists don't fit.
 fn verdict(rows: &[Hops], labels: &LabelList) -> Option<Result<(), Refuted>> {
-    if rows.len() != 5 || labels.len() != 5 || !lead_to_rows(rows) {
+    if rows.len() != 5 || labels.len() != 5 || !are_roads(rows) {
         return None;
     }
     let mut view = Adjacency::new(rows);
@@ -59,7 +60,7 @@ fn labels_by<P: Potential>(
     rows: &[Hops],
     potential: &P,
 ) -> Result<Option<LabelList>, NoMemory> {
-    if rows.len() != 5 || !lead_to_rows(rows) {
+    if rows.len() != 5 || !are_roads(rows) {
         return Ok(None);
     }
     let mut view = Adjacency::new(rows);
@@ -128,7 +129,7 @@ fn a_closed_set_is_accepted_and_an_open_one_refused(rt: HostRuntime) -> Result<(
     let rows = pair_and_one(rt.alloc())?;
     let rows = rows.as_slice();
     assert_eq!(rt; rows.len(), 3);
-    let leads = lead_to_rows(rows);
+    let leads = are_roads(rows);
     assert!(rt; leads);
     let mut closed = NodeSet::new(rt.alloc(), 3)?;
     closed.add(NodeId(0));

@@ -1,5 +1,6 @@
 //! Labels of a row of three nodes, and in whole grains.
-use alt_search::{Adjacency, lead_to_rows};
+use crate::sound::are_roads;
+use alt_search::Adjacency;
 use gh_base::{DirEdge, EdgeId, Hop, Hops, LabelList, NoMemory, NodeId};
 use label_spread::{GrainView, labels_from, labels_to};
 use std::alloc::Global;
@@ -57,7 +58,7 @@ fn three_back(alloc: Global) -> Result<Vec<Hops>, NoMemory> {
 fn labels_are_distances_and_none_where_no_walk_leads(rt: HostRuntime) -> Result<(), Fail> {
     let rows = three(rt.alloc())?;
     let rows = rows.as_slice();
-    let is_sound = lead_to_rows(rows);
+    let is_sound = are_roads(rows);
     assert!(rt; is_sound);
     assert_eq!(rt; rows.len(), 3);
     let view = Adjacency::new(rows);
@@ -72,7 +73,7 @@ fn labels_are_distances_and_none_where_no_walk_leads(rt: HostRuntime) -> Result<
 fn labels_to_a_node_go_over_the_roads_turned_round(rt: HostRuntime) -> Result<(), Fail> {
     let rows = three_back(rt.alloc())?;
     let rows = rows.as_slice();
-    let is_sound = lead_to_rows(rows);
+    let is_sound = are_roads(rows);
     assert!(rt; is_sound);
     assert_eq!(rt; rows.len(), 3);
     let back = Adjacency::new(rows);
@@ -85,7 +86,7 @@ fn labels_to_a_node_go_over_the_roads_turned_round(rt: HostRuntime) -> Result<()
 fn in_grains_of_five_each_weight_is_rounded_down(rt: HostRuntime) -> Result<(), Fail> {
     let rows = three(rt.alloc())?;
     let rows = rows.as_slice();
-    let is_sound = lead_to_rows(rows);
+    let is_sound = are_roads(rows);
     assert!(rt; is_sound);
     assert_eq!(rt; rows.len(), 3);
     let view = GrainView::new(Adjacency::new(rows), 5);

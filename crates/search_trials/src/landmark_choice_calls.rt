@@ -1,5 +1,6 @@
 //! Landmarks and parts of small roads, as lists of hops.
-use alt_search::{Adjacency, lead_to_rows};
+use crate::sound::are_roads;
+use alt_search::Adjacency;
 use gh_base::{DirEdge, EdgeId, Hop, Hops, NoMemory, NodeId};
 use landmark_choice::{Choice, choose, largest_part};
 use std::alloc::Global;
@@ -68,7 +69,7 @@ fn check(rt: &impl Abort, choice: &Choice, expected: &[NodeId], far_ms: u128) {
 fn in_a_row_of_three_the_ends_come_first(rt: HostRuntime) -> Result<(), Fail> {
     let rows = three(rt.alloc(), Some(WEIGHT_MS))?;
     let rows = rows.as_slice();
-    let is_sound = lead_to_rows(rows);
+    let is_sound = are_roads(rows);
     assert!(rt; is_sound);
     assert_eq!(rt; rows.len(), 3);
     let view = Adjacency::new(rows);
@@ -86,7 +87,7 @@ fn in_a_row_of_three_the_ends_come_first(rt: HostRuntime) -> Result<(), Fail> {
 fn of_two_pairs_the_first_is_taken(rt: HostRuntime) -> Result<(), Fail> {
     let rows = two_pairs(rt.alloc())?;
     let rows = rows.as_slice();
-    let is_sound = lead_to_rows(rows);
+    let is_sound = are_roads(rows);
     assert!(rt; is_sound);
     assert_eq!(rt; rows.len(), 4);
     let view = Adjacency::new(rows);
@@ -100,7 +101,7 @@ fn of_two_pairs_the_first_is_taken(rt: HostRuntime) -> Result<(), Fail> {
 fn with_no_weight_there_is_no_part(rt: HostRuntime) -> Result<(), Fail> {
     let rows = three(rt.alloc(), None)?;
     let rows = rows.as_slice();
-    let is_sound = lead_to_rows(rows);
+    let is_sound = are_roads(rows);
     assert!(rt; is_sound);
     assert_eq!(rt; rows.len(), 3);
     let view = Adjacency::new(rows);
@@ -112,14 +113,14 @@ fn with_no_weight_there_is_no_part(rt: HostRuntime) -> Result<(), Fail> {
 fn one_way_is_enough_for_a_part_and_a_loop_adds_no_node(rt: HostRuntime) -> Result<(), Fail> {
     let rows = one_way(rt.alloc(), 2, 1)?;
     let rows = rows.as_slice();
-    let is_sound = lead_to_rows(rows);
+    let is_sound = are_roads(rows);
     assert!(rt; is_sound);
     assert_eq!(rt; rows.len(), 3);
     let view = Adjacency::new(rows);
     assert_eq!(rt; largest_part(rt.alloc(), &view, &view)?, Some(NodeId(1)));
     let rows = one_way(rt.alloc(), 2, 2)?;
     let rows = rows.as_slice();
-    let is_sound = lead_to_rows(rows);
+    let is_sound = are_roads(rows);
     assert!(rt; is_sound);
     assert_eq!(rt; rows.len(), 3);
     let view = Adjacency::new(rows);

@@ -4,7 +4,8 @@ ghost use Rattle.gh_base.specs.declared.edges.Hop.{Hop};
 ghost use Rattle.walk_rules.specs.Walks.{AreTurned, HasEachBack};
 ghost use Rattle.alt_search.specs.Rows.{network_in};
 
-use alt_search::{Adjacency, Found, lead_to_rows, search};
+use crate::sound::are_roads;
+use alt_search::{Adjacency, Found, search};
 use gh_base::{Arrival, DirEdge, EdgeId, Hop, Hops, LimitList, NoMemory, NodeId, Potential};
 use landmark_prep::{Chosen, Goal, LabelTable, Made, Prep, make_prep, of_parts};
 use std::alloc::Global;
@@ -118,9 +119,9 @@ fn make<R: Threads + Sync + Abort>(
     let (out, back) = (out.as_slice(), back.as_slice());
     let is_small = out.len() < 100 && back.len() < 100 && 0 < count && count <= 16;
     assert!(rt; is_small);
-    let is_sound = lead_to_rows(out);
+    let is_sound = are_roads(out);
     assert!(rt; is_sound);
-    let is_sound_back = lead_to_rows(back);
+    let is_sound_back = are_roads(back);
     assert!(rt; is_sound_back);
     let is_turned = are_turned(out, back);
     assert!(rt; is_turned);
@@ -221,7 +222,7 @@ fn searched(
 ) -> Result<Option<(u128, u32)>, NoMemory> {
     let rows = rows(alloc, prep.node_count(), hops, false)?;
     let rows = rows.as_slice();
-    let is_sound = lead_to_rows(rows);
+    let is_sound = are_roads(rows);
     assert!(rt; is_sound);
     let is_each = rows.len() == prep.node_count() as usize && from < prep.node_count();
     assert!(rt; is_each);

@@ -20,4 +20,6 @@ mod query_graph_calls;
 #[cfg(test)]
 mod search_queue_calls;
 #[cfg(test)]
+mod sound;
+#[cfg(test)]
 mod two_way_search_calls;

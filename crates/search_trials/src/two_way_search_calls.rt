@@ -6,7 +6,8 @@ ghost use Rattle.walk_rules.specs.Potentials.{IsWithin, FallsAlong, IsFeasible};
 ghost use Rattle.alt_search.specs.Rows.{network_in};
 ghost use Rattle.two_way_search.specs.Turned.{HasEachTurned, IsTurned};
 
-use alt_search::{Adjacency, FlatPotential, lead_to_rows};
+use crate::sound::are_roads;
+use alt_search::{Adjacency, FlatPotential};
 use gh_base::{DirEdge, EdgeId, Hop, Hops, LimitList, NoMemory, NodeId, Potential};
 use landmark_prep::{Chosen, Goal, LabelTable, Prep, of_parts};
 use std::alloc::Global;
@@ -144,9 +145,9 @@ fn found<P: Potential, Q: Potential>(
     assert!(rt; is_small);
     let are_nodes = (from as usize) < out.len() && (to as usize) < out.len();
     assert!(rt; are_nodes);
-    let is_sound = lead_to_rows(out);
+    let is_sound = are_roads(out);
     assert!(rt; is_sound);
-    let is_sound_back = lead_to_rows(back);
+    let is_sound_back = are_roads(back);
     assert!(rt; is_sound_back);
     let is_posed = are_posed(out, back, ahead, behind, start, target);
     assert!(rt; is_posed);
