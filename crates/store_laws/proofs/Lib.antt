@@ -1,1 +1,4 @@
 pub mod Parsing
+pub mod NoFaults
+pub mod NoListFaults
+pub mod NoFaultsAtAll
