@@ -21,8 +21,8 @@ fn put_blob(
     put_bytes(&mut header, 1, name)?;
     put_varint(&mut header, DATASIZE)?;
     put_varint(&mut header, blob.len() as u64)?;
-    file.extend_from_slice(&[0, 0, 0])?;
-    file.push(header.len() as u8)?;
+    // A header is shorter than 256 bytes here.
+    file.extend_from_slice(&[0, 0, 0, (header.len() % 256) as u8])?;
     file.extend_from_slice(&header)?;
     file.extend_from_slice(&blob)?;
     Ok(())
