@@ -48,7 +48,7 @@ fn push_char(alloc: Global, out: &mut Text, c: char) -> Result<(), NoMemory>
 
 /// A key or a value, with its escapes read.
 #[tactic(auto, using(crate::proofs::Loops::code_more, crate::proofs::Loops::front_nil), unfolding(crate::specs::Escapes::text_at))]
-pub(crate) fn unescape(alloc: Global, text: &str) -> Result<Text, WordFault>
+pub fn unescape(alloc: Global, text: &str) -> Result<Text, WordFault>
     ensures { Gives result (text_at text.now) }
 {
     let mut out = Text::new(alloc);

@@ -3,7 +3,7 @@ use gh_base::{PartFault, PlainKind};
 use thiserror::Error;
 
 /// Why a word is not read.
-pub(crate) type WordFault = PartFault<PlainKind>;
+pub type WordFault = PartFault<PlainKind>;
 
 /// Why a line is not read.
 #[derive(Clone, Copy, Debug, PartialEq, Eq)]

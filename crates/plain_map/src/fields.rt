@@ -7,7 +7,7 @@ ghost use Rattle.gh_base.specs.Readings.{Gives};
 ghost use Rattle.plain_map.specs.Fields.{behind, coordinate_at, ref_at, refs_of, refs_at, is_skipped, node_with, way_with, IsInRange};
 
 use crate::fault::WordFault;
-use crate::tags::tags;
+use crate::tags::read_tags;
 use gh_base::{IdList, MOST_LAT, MOST_LON, PlainKind, TagList, first_part, read_decimal, read_id};
 use std::alloc::Global;
 
@@ -30,7 +30,7 @@ pub struct WaySoFar {
 }
 
 /// What follows a letter.
-pub(crate) fn after_letter(word: &str, letter: char) -> Option<&str>
+pub fn after_letter(word: &str, letter: char) -> Option<&str>
     requires { letter < 128 }
     ensures { option_map (λ t. t.now) result ≡ behind letter word.now }
 {
@@ -79,8 +79,9 @@ fn each_ref(alloc: Global, text: &str) -> Result<IdList, WordFault>
     Ok(all)
 }
 
+/// The references between commas, each `n` and an id; an empty text has none.
 #[tactic(auto, unfolding(crate::specs::Fields::refs_at))]
-fn refs(alloc: Global, text: &str) -> Result<IdList, WordFault>
+pub fn refs(alloc: Global, text: &str) -> Result<IdList, WordFault>
     ensures { Gives result (refs_at text.now) }
 {
     if text.is_empty() {
@@ -89,7 +90,8 @@ fn refs(alloc: Global, text: &str) -> Result<IdList, WordFault>
     each_ref(alloc, text)
 }
 
-fn is_passed(word: &str) -> bool
+/// Whether a word is a field that nothing reads.
+pub fn is_passed(word: &str) -> bool
     ensures { result ≡ is_skipped word.now }
 {
     matches!(
@@ -131,7 +133,7 @@ pub(crate) fn node_word(alloc: Global, s: NodeSoFar, word: &str) -> Result<NodeS
         if s.tagged {
             return Err(WordFault::Is(PlainKind::Field));
         }
-        let _dropped = tags(alloc, text)?;
+        let _dropped = read_tags(alloc, text)?;
         return Ok(NodeSoFar {
             lat: s.lat,
             lon: s.lon,
@@ -154,7 +156,7 @@ pub(crate) fn way_word(alloc: Global, s: WaySoFar, word: &str) -> Result<WaySoFa
         if s.tags.is_some() {
             return Err(WordFault::Is(PlainKind::Field));
         }
-        let tags = Some(tags(alloc, text)?);
+        let tags = Some(read_tags(alloc, text)?);
         return Ok(WaySoFar { tags, refs: s.refs });
     }
     if let Some(text) = after_letter(word, 'N') {

@@ -15,9 +15,12 @@ mod reading;
 mod tags;
 mod texts;
 
-pub use fault::PlainFault;
+pub use escapes::unescape;
+pub use fault::{PlainFault, WordFault};
+pub use fields::{after_letter, is_passed, refs};
 pub use gh_base::PlainKind;
 pub use law::maps_are_read_again;
 pub use printing::{print_plain, send_block};
 pub use reading::read_plain;
+pub use tags::read_tags;
 pub use texts::{push_coordinate, push_id, push_natural};

@@ -65,7 +65,7 @@ fn each_tag(alloc: Global, text: &str) -> Result<TagList, WordFault>
 
 /// The tags behind a T. A tag without exactly one `=` is a fault before any escape.
 #[tactic(auto, unfolding(crate::specs::Fields::tags_at))]
-pub(crate) fn tags(alloc: Global, text: &str) -> Result<TagList, WordFault>
+pub fn read_tags(alloc: Global, text: &str) -> Result<TagList, WordFault>
     ensures { Gives result (tags_at text.now) }
 {
     if text.is_empty() {

@@ -24,10 +24,12 @@ mod so_far;
 mod words;
 
 pub use entry_line::put_entry;
-pub use fault::ScriptFault;
+pub use fault::{LineFault, ScriptFault};
 pub use gh_base::ScriptKind;
+pub use line::passes;
+pub use line_words::LineWords;
 pub use noted::Noted;
 pub use reading::read_script;
 pub use reply::Reply;
-pub use reply_line::put_reply;
+pub use reply_line::{put_answer, put_count, put_hops, put_reply};
 pub use script::{Command, Line, Names, Phase, Phases, Script, ScriptRead};

@@ -193,7 +193,8 @@ fn whole_line(
     }
 }
 
-fn passes(line: &[u8]) -> bool
+/// Whether a line is passed over: it is empty, or begins with `#`.
+pub fn passes(line: &[u8]) -> bool
     ensures { result ≡ spec.is_passed line.now }
 {
     matches!(line, [] | [b'#', ..])

@@ -10,7 +10,7 @@ use std::marker::Model;
 
 /// The words that are left of a line. Contracts see the byte where they begin, and their list.
 #[derive(Drop)]
-pub(crate) struct LineWords<'a> {
+pub struct LineWords<'a> {
     at: usize,
     left: Option<&'a str>,
 }
@@ -28,7 +28,8 @@ impl<'a> Model for LineWords<'a> {
 }
 
 impl<'a> LineWords<'a> {
-    pub(crate) fn new(line: &'a str) -> LineWords<'a>
+    /// The words of a line, between single spaces.
+    pub fn new(line: &'a str) -> LineWords<'a>
         requires { length line.now < 2 ^ 32 }
         ensures { result ≡ (0, parts_of 32 line.now) }
     {
@@ -39,7 +40,7 @@ impl<'a> LineWords<'a> {
     }
 
     /// The next word, with its byte.
-    pub(crate) fn next(&mut self) -> Result<(u32, &'a str), LineFault>
+    pub fn next(&mut self) -> Result<(u32, &'a str), LineFault>
         ensures word { MatchResult result (λ p. spec.next self.old ≡ Ok ((p.0, p.1.now), self.new)) (spec.Stops (spec.next self.old)) }
         ensures text { IfOk result (λ p. IsUtf8 p.1.now) }
     {
@@ -57,7 +58,7 @@ impl<'a> LineWords<'a> {
 
     /// Refuses a word more.
     #[tactic(auto, using(crate::proofs::Parts::one_more_word))]
-    pub(crate) fn end(&mut self) -> Result<(), LineFault>
+    pub fn end(&mut self) -> Result<(), LineFault>
         ensures { spec.Reads (spec.last self.old) result self.new }
     {
         match self.left {
@@ -68,7 +69,7 @@ impl<'a> LineWords<'a> {
 
     /// The rest of the line, with its byte, where there is more.
     #[tactic(auto, using(crate::proofs::Parts::rest_is_text))]
-    pub(crate) fn rest(&mut self) -> Option<(u32, &'a str)>
+    pub fn rest(&mut self) -> Option<(u32, &'a str)>
         ensures value { option_map (λ p. (p.0, p.1.now)) result ≡ spec.rest_of self.old.0 self.old.1 }
         ensures text { IfSome result (λ p. IsUtf8 p.1.now) }
         ensures short { IfSome result (λ p. length p.1.now < 2 ^ 32) }

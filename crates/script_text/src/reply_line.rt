@@ -17,7 +17,8 @@ pub(crate) fn put_edge(out: &mut Text, lead: &str, edge: DirEdge) -> Result<(), 
     out.push(if edge.reverse { "-" } else { "+" })
 }
 
-fn put_hops(out: &mut Text, hops: &[Hop]) -> Result<(), NoMemory>
+/// A space before each edge of a walk, and its number and direction behind it.
+pub fn put_hops(out: &mut Text, hops: &[Hop]) -> Result<(), NoMemory>
     ensures { OnOk result (out.new ≡ out.old ++ spec.hops_text hops.now) }
 {
     for hop in hops {
@@ -46,7 +47,7 @@ fn put_labels(out: &mut Text, labels: &[Option<u64>]) -> Result<(), NoMemory>
 }
 
 /// A word and a number.
-pub(crate) fn put_count(out: &mut Text, word: &str, count: u128) -> Result<(), NoMemory>
+pub fn put_count(out: &mut Text, word: &str, count: u128) -> Result<(), NoMemory>
     ensures { OnOk result (out.new ≡ out.old ++ (word.now ++ decimal count)) }
 {
     out.push(word)?;
@@ -111,7 +112,8 @@ fn put_change(
     put_count(out, " ", u128::from(now))
 }
 
-fn put_answer(out: &mut Text, reply: &Reply) -> Result<(), NoMemory>
+/// What a reply says.
+pub fn put_answer(out: &mut Text, reply: &Reply) -> Result<(), NoMemory>
     ensures { OnOk result (out.new ≡ out.old ++ spec.reply_text reply.now) }
 {
     match reply {

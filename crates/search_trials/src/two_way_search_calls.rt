@@ -4,7 +4,7 @@ ghost use Rattle.gh_base.specs.declared.edges.Hop.{Hop};
 ghost use Rattle.walk_rules.specs.Walks.{cost};
 ghost use Rattle.walk_rules.specs.Potentials.{IsWithin, FallsAlong, IsFeasible};
 ghost use Rattle.alt_search.specs.Rows.{network_in};
-ghost use Rattle.two_way_search.specs.Turned.{HasEachTurned, IsTurned};
+ghost use Rattle.walk_rules.specs.Turned.{HasEachTurned, IsTurned};
 
 use crate::sound::are_roads;
 use alt_search::{Adjacency, FlatPotential};

@@ -60,7 +60,7 @@ fn behind_target(graph: &BaseGraph, to: Spot, hops: &[Hop]) -> u64
 
 /// The mm of a walk between two spots: those of its edges, but for what lies before its start and behind its
 /// target.
-pub(crate) fn walk_mm(graph: &BaseGraph, from: Spot, to: Spot, hops: &[Hop]) -> u64
+pub fn walk_mm(graph: &BaseGraph, from: Spot, to: Spot, hops: &[Hop]) -> u64
     requires from { IsOn graph.now.lists from }
     requires to { IsOn graph.now.lists to }
     requires over { AreOver graph.now.lists hops.now }

@@ -32,7 +32,7 @@ use weighting::{Side, WeightView, Weighting};
 
 /// The greatest weight of a route that is answered, in ms: whole numbers up to it are exact
 /// wherever they are read.
-const GREATEST_WEIGHT: u128 = 9_007_199_254_740_991;
+pub const GREATEST_WEIGHT: u128 = 9_007_199_254_740_991;
 
 /// Two spots, and the nodes that stand for them in a view.
 #[derive(Clone, Copy)]

@@ -6,13 +6,9 @@
 //! (PlainRelations). Stands on the words of `plain_map` and on `turn_graph`.
 #![tactic(auto)]
 
-mod escapes;
-mod fields;
 mod lines;
 mod members;
 mod relation;
-mod tags;
-mod words;
 
 pub use lines::read_plain_turns;
 pub use relation::{Member, MemberKind, MemberList, Relation, turn_of};

@@ -5,12 +5,10 @@ ghost use Rattle.gh_base.specs.Parts.{parts_of, parts_left};
 ghost use Rattle.gh_base.specs.Readings.{Gives};
 ghost use Rattle.turn_texts.specs.PlainRelations.{relation_with, relation_words, nothing, relation_by, relation_of, relation_at, is_begun, turn_at, plain_turns};
 
-use crate::fields::{after_letter, is_passed, refs};
 use crate::members::members;
 use crate::relation::{MemberList, Relation, turn_of};
-use crate::tags::tags;
-use crate::words::WordFault;
 use gh_base::{IdList, NoMemory, PlainKind, TagList, first_bytes, first_part, read_id, valid_text};
+use plain_map::{WordFault, after_letter, is_passed, read_tags, refs};
 use std::alloc::Global;
 use turn_graph::{Turn, TurnList};
 
@@ -31,7 +29,7 @@ fn relation_word(alloc: Global, s: RelationSoFar, word: &str) -> Result<Relation
         if s.tags.is_some() {
             return Err(WordFault::Is(PlainKind::Field));
         }
-        let tags = Some(tags(alloc, text)?);
+        let tags = Some(read_tags(alloc, text)?);
         return Ok(RelationSoFar {
             tags,
             refs: s.refs,

@@ -5,11 +5,9 @@ ghost use Rattle.gh_base.specs.Parts.{parts_of};
 ghost use Rattle.gh_base.specs.Readings.{Gives};
 ghost use Rattle.turn_texts.specs.PlainRelations.{sides_of, id_and_role, role_at, member_at, members_of, members_at};
 
-use crate::escapes::unescape;
-use crate::fields::after_letter;
 use crate::relation::{Member, MemberKind, MemberList};
-use crate::words::WordFault;
 use gh_base::{PlainKind, Text, first_part, read_id};
+use plain_map::{WordFault, after_letter, unescape};
 use std::alloc::Global;
 
 /// A role, with its escapes read.

@@ -6,7 +6,7 @@ use Rattle.walk_rules.specs.Walks.{IsWalk, weight_of, cost, HasEachBack}
 use Rattle.walk_rules.specs.Potentials.{IsWithin, IsFeasible}
 use Rattle.walk_rules.proofs.Walking.{falls_along_walk}
 use Rattle.walk_rules.proofs.Turning.{walk_back}
-use Rattle.two_way_search.specs.Turned.{HasEachTurned, IsTurned}
+use Rattle.walk_rules.specs.Turned.{HasEachTurned, IsTurned}
 use Rattle.two_way_search.specs.Opposed.{AreOpposed}
 use Rattle.two_way_search.specs.Sides.{reduced, reduced_by, FallsTwice, AreSmall}
 

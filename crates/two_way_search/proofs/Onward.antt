@@ -9,7 +9,7 @@ use Rattle.walk_rules.proofs.Walking.{walk_push}
 use Rattle.alt_search.specs.declared.reach.Reach.{Reach}
 use Rattle.alt_search.specs.declared.reach.Step.{Step}
 use Rattle.alt_search.specs.Progress.{reach_at}
-use Rattle.two_way_search.specs.Turned.{IsTurned}
+use Rattle.walk_rules.specs.Turned.{IsTurned}
 use Rattle.two_way_search.specs.Sides.{IsTree}
 
 -- the last hop of a walk, turned round

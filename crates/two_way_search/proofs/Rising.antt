@@ -9,7 +9,7 @@ use Rattle.walk_rules.specs.Distances.{label_at}
 use Rattle.landmark_prep.specs.Packing.{Labels}
 use Rattle.landmark_prep.specs.Bounds.{Fits, over, greater, bound_of, bound_by, labels_at, picked}
 use Rattle.landmark_prep.proofs.Feasible.{bound_at_target, picked_fit}
-use Rattle.two_way_search.specs.Turned.{IsTurned}
+use Rattle.walk_rules.specs.Turned.{IsTurned}
 use Rattle.two_way_search.specs.Behind.{behind_of}
 
 -- how each word keeps within a weight

@@ -1,4 +1,3 @@
-pub mod Turned
 pub mod Keys
 pub mod Answers
 pub mod Sides

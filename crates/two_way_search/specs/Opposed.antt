@@ -2,7 +2,7 @@
 use Rattle.std.specs.Prelude.{ℕ, Option}
 use Rattle.gh_base.specs.Networks.{Network}
 use Rattle.walk_rules.specs.Potentials.{IsFeasible}
-use Rattle.two_way_search.specs.Turned.{IsTurned}
+use Rattle.walk_rules.specs.Turned.{IsTurned}
 
 -- roads and the same turned round, a bound on what is left to the target, and one on what lies behind from the start
 pub record AreOpposed (out back : Network) (ahead behind : ℕ → Option ℕ) (start target : ℕ) : Type 0 where

@@ -5,7 +5,7 @@ ghost use Rattle.walk_rules.specs.Walks.{IsNoFaster};
 ghost use Rattle.walk_rules.specs.Potentials.{IsFeasible};
 ghost use Rattle.landmark_prep.specs.Preparations.{nodes_of};
 ghost use Rattle.landmark_prep.specs.Bounds.{AreFit, picked};
-ghost use Rattle.two_way_search.specs.Turned.{IsTurned};
+ghost use Rattle.walk_rules.specs.Turned.{IsTurned};
 ghost use Rattle.two_way_search.specs.Behind.{behind_of};
 
 use gh_base::{NodeId, Potential};

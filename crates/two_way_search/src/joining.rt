@@ -4,7 +4,7 @@ ghost use Rattle.gh_base.specs.Networks.{Network};
 ghost use Rattle.walk_rules.specs.Walks.{IsWalk, weight_of};
 ghost use Rattle.alt_search.specs.declared.reach.Reach.{Reach};
 ghost use Rattle.alt_search.specs.Progress.{reach_at, IsChain};
-ghost use Rattle.two_way_search.specs.Turned.{IsTurned};
+ghost use Rattle.walk_rules.specs.Turned.{IsTurned};
 ghost use Rattle.two_way_search.specs.Sides.{IsTree};
 
 use alt_search::{Reached, Step, walk_to};

@@ -2,7 +2,7 @@
 ghost use Rattle.std.specs.Prelude.{◌≡◌, ◌+◌, ◌^◌, ◌<◌, ◌≤◌, ◌↔◌, ◌⊎◌, IfOk};
 ghost use Rattle.walk_rules.specs.Walks.{IsWalk, weight_of, IsAtMostEachWalk, NoWalk};
 ghost use Rattle.walk_rules.specs.Potentials.{IsFeasible};
-ghost use Rattle.two_way_search.specs.Turned.{IsTurned};
+ghost use Rattle.walk_rules.specs.Turned.{IsTurned};
 ghost use Rattle.two_way_search.specs.Keys.{StartsOnBothSides};
 ghost use Rattle.two_way_search.specs.Answers.{IfWalk, IsNoWalk, forward_of, backward_of, NeedsNoSearch};
 

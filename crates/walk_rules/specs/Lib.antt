@@ -1,4 +1,5 @@
 pub mod Walks
+pub mod Turned
 pub mod Potentials
 pub mod Distances
 pub mod Starts

@@ -10,7 +10,10 @@ use Rattle.weighting.specs.declared.weight_view.Side.TheVariants.{Out, Back}
 use Rattle.weighting.specs.Rules.{Rule}
 use Rattle.weighting.specs.Roads.{hop_of, network_by, network_back, opposite}
 use Rattle.weighting.specs.RoadFacts.{each_hop, tail_of_opposite}
-use Rattle.weighting.specs.SlowRoads.{SidesAreTurned}
+use Rattle.gh_base.specs.Networks.{Network}
+use Rattle.walk_rules.specs.Walks.{HasEachBack}
+use Rattle.walk_rules.specs.Turned.{HasEachTurned}
+use Rattle.weighting.specs.SlowRoads.{SidesAreTurned, SidesTurnAlongEdges}
 
 pub contains_map : {A B : Type 0} (f : A → B) (xs : List A) (x : A) → Contains xs x → Contains (map f xs) (f x)
 contains_map f [] x c = absurd (omega (arith, c.1))
@@ -76,18 +79,19 @@ opposite_twice : (by : DirEdge) → opposite (opposite by) ≡ by
 opposite_twice by = ap (λ (s : Bool). directed by.edge.0 s) (not_not by.reverse)
 
 there : (rule : Rule) (limits : DirEdge → ℕ) (graph : Graph) → IsGraph graph → (node : ℕ) (by : DirEdge) → Contains (around_of graph node) by
-    → (other : Hop) × Contains ((network_back rule limits graph).hops (hop_of Out rule limits graph by).to.0) other × (other.to.0 ≡ node) × (other.weight ≡ (hop_of Out rule limits graph by).weight)
+    → (other : Hop) × Contains ((network_back rule limits graph).hops (hop_of Out rule limits graph by).to.0) other × (other.to.0 ≡ node) × (other.by ≡ by) × (other.weight ≡ (hop_of Out rule limits graph by).weight)
 there rule limits graph facts node by c =
     let f = hop_of Back rule limits graph in
     let to = head (edge_at graph.edges by.edge.0) by.reverse in (
       f (opposite by),
       contains_map f (around_of graph to) (opposite by) (opposite_around graph facts node by c),
       ap (λ (d : DirEdge). tail (edge_at graph.edges d.edge.0) d.reverse) (opposite_twice by) ∙ tail_is graph facts node by c,
+      opposite_twice by,
       ap (λ (d : DirEdge). (hop_of Out rule limits graph d).weight) (opposite_twice by),
     )
 
 here : (rule : Rule) (limits : DirEdge → ℕ) (graph : Graph) → IsGraph graph → (node : ℕ) (by : DirEdge) → Contains (around_of graph node) by
-    → (other : Hop) × Contains ((network_by rule limits graph).hops (hop_of Back rule limits graph by).to.0) other × (other.to.0 ≡ node) × (other.weight ≡ (hop_of Back rule limits graph by).weight)
+    → (other : Hop) × Contains ((network_by rule limits graph).hops (hop_of Back rule limits graph by).to.0) other × (other.to.0 ≡ node) × (other.by ≡ (hop_of Back rule limits graph by).by) × (other.weight ≡ (hop_of Back rule limits graph by).weight)
 here rule limits graph facts node by c =
     let f = hop_of Out rule limits graph in
     let edge = edge_at graph.edges by.edge.0 in (
@@ -96,15 +100,27 @@ here rule limits graph facts node by c =
           (contains_map f (around_of graph (head edge by.reverse)) (opposite by) (opposite_around graph facts node by c)),
       head_of_opposite edge by.reverse ∙ tail_is graph facts node by c,
       refl,
+      refl,
     )
 
-pub sides_are_turned : SidesAreTurned
-sides_are_turned rule limits graph facts = record {
+pub sides_turn_along_edges : SidesTurnAlongEdges
+sides_turn_along_edges rule limits graph facts = record {
   nodes = refl;
   there = λ node hop c some. each_hop Out rule limits graph node
-      (λ (h : Hop). (other : Hop) × Contains ((network_back rule limits graph).hops h.to.0) other × (other.to.0 ≡ node) × (other.weight ≡ h.weight))
+      (λ (h : Hop). (other : Hop) × Contains ((network_back rule limits graph).hops h.to.0) other × (other.to.0 ≡ node) × (other.by ≡ h.by) × (other.weight ≡ h.weight))
       (there rule limits graph facts node) hop c;
   here = λ node hop c some. each_hop Back rule limits graph node
-      (λ (h : Hop). (other : Hop) × Contains ((network_by rule limits graph).hops h.to.0) other × (other.to.0 ≡ node) × (other.weight ≡ h.weight))
+      (λ (h : Hop). (other : Hop) × Contains ((network_by rule limits graph).hops h.to.0) other × (other.to.0 ≡ node) × (other.by ≡ h.by) × (other.weight ≡ h.weight))
       (here rule limits graph facts node) hop c;
+}
+
+-- without the edges
+without : (network back : Network) → HasEachTurned network back → HasEachBack network back
+without network back each node hop c some = let found = each node hop c some in (found.0, found.1, found.2, found.4)
+
+pub sides_are_turned : SidesAreTurned
+sides_are_turned rule limits graph facts = let turned = sides_turn_along_edges rule limits graph facts in record {
+  nodes = turned.nodes;
+  there = without (network_by rule limits graph) (network_back rule limits graph) turned.there;
+  here = without (network_back rule limits graph) (network_by rule limits graph) turned.here;
 }

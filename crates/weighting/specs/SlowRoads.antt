@@ -4,6 +4,7 @@ use Rattle.std.specs.Prelude.{◌≡◌, ℕ, ◌<◌, ◌≤◌, length, Option
 use Rattle.gh_base.specs.declared.edges.DirEdge.{DirEdge}
 use Rattle.base_graph.specs.Graphs.{Graph, IsGraph}
 use Rattle.walk_rules.specs.Walks.{IsNoFaster, AreTurned}
+use Rattle.walk_rules.specs.Turned.{IsTurned}
 use Rattle.model_eval.specs.declared.custom_model.CustomModel.{CustomModel}
 use Rattle.model_eval.specs.Slowing.{AreStored, IsSlow, low_influence}
 use Rattle.weighting.specs.declared.weight_view.Side.{Side}
@@ -52,3 +53,8 @@ NoHopIsFaster = (side : Side) (rule : Rule) (graph : Graph) (limits earlier : Di
 abbrev pub SidesAreTurned : Type 0
 SidesAreTurned = (rule : Rule) (limits : DirEdge → ℕ) (graph : Graph) → IsGraph graph →
     AreTurned (network_by rule limits graph) (network_back rule limits graph)
+
+-- each over the same directed edge
+abbrev pub SidesTurnAlongEdges : Type 0
+SidesTurnAlongEdges = (rule : Rule) (limits : DirEdge → ℕ) (graph : Graph) → IsGraph graph →
+    IsTurned (network_by rule limits graph) (network_back rule limits graph)

@@ -1,5 +1,5 @@
 //! Laws of weights and views: what each function ensures is the law.
-ghost use Rattle.weighting.specs.SlowRoads.{HasStored, NoHopIsFaster, NoWeightFalls, SidesAreTurned, ValuesAreStored};
+ghost use Rattle.weighting.specs.SlowRoads.{HasStored, NoHopIsFaster, NoWeightFalls, SidesAreTurned, SidesTurnAlongEdges, ValuesAreStored};
 ghost use Rattle.weighting.specs.Weights.{WeightsFit};
 
 use base_graph::BaseGraph;
@@ -23,6 +23,11 @@ pub fn no_hop_is_faster()
 /// The hops of the one side are those of the other, turned round.
 pub fn sides_are_turned()
     ensures { SidesAreTurned }
+{}
+
+/// They are over the same directed edges.
+pub fn sides_turn_along_edges()
+    ensures { SidesTurnAlongEdges }
 {}
 
 /// The values of a graph's edges are in the ranges that are stored.

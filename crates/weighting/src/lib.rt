@@ -15,7 +15,7 @@ mod weighting;
 pub use gh_base::Vehicle;
 pub use laws::{
     graph_values_are_stored, no_hop_is_faster, no_weight_falls, sides_are_turned,
-    values_are_stored_in_each_graph, weights_fit,
+    sides_turn_along_edges, values_are_stored_in_each_graph, weights_fit,
 };
 pub use opening::Opening;
 pub use profile::{CAR_PROFILE, Profile, Profiles, car_profile};

@@ -3,7 +3,7 @@ use Rattle.gh_base.specs.Networks.{Network}
 use Rattle.walk_rules.specs.Walks.{IsWalk, weight_of}
 use Rattle.alt_search.specs.declared.reach.Reach.{Reach}
 use Rattle.alt_search.specs.Progress.{reach_at, depth_of}
-use Rattle.two_way_search.specs.Turned.{IsTurned}
+use Rattle.walk_rules.specs.Turned.{IsTurned}
 use Rattle.two_way_search.specs.Sides.{IsTree}
 use Rattle.two_way_search.proofs.joining.walk_over.Given as goal
 
