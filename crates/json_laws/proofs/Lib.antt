@@ -1,0 +1,4 @@
+pub mod Escapes
+pub mod Decimals
+pub mod Spaces
+pub mod SamplesShown

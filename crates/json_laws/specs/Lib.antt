@@ -1,0 +1,4 @@
+pub mod Escaping
+pub mod Numbering
+pub mod Spacing
+pub mod Samples

@@ -1,0 +1,28 @@
+//! The laws. Each function does nothing: what it ensures is the law.
+ghost use Rattle.model_laws.specs.Actions.{ActionsAreSo};
+ghost use Rattle.model_laws.specs.Conditions.{NamesAreSo, WordsAreSo, ConditionsAreSo, ConditionFaultsStandSo};
+
+/// Each name of a truth value, and each name of a number with each operator.
+pub fn names_are_so()
+    ensures { NamesAreSo }
+{}
+
+/// Each word of each enum, by its place among them.
+pub fn words_are_so()
+    ensures { WordsAreSo }
+{}
+
+/// Areas, constants, signs and spaces.
+pub fn conditions_are_so()
+    ensures { ConditionsAreSo }
+{}
+
+/// Conditions that are refused, with the byte and the kind.
+pub fn condition_faults_stand_so()
+    ensures { ConditionFaultsStandSo }
+{}
+
+/// Decimals and expressions, in the units of what they act on.
+pub fn actions_are_so()
+    ensures { ActionsAreSo }
+{}

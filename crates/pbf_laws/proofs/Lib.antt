@@ -1,0 +1,5 @@
+pub mod Varints
+pub mod Coordinates
+pub mod Fields
+pub mod DenseRead
+pub mod SamplesShown

@@ -1,0 +1,5 @@
+use Rattle.pbf_laws.proofs.SamplesShown.{faults_so}
+use Rattle.pbf_laws.proofs.laws.faults_stand_so.Goals as goal
+
+pub returns : goal.returns
+returns c = faults_so

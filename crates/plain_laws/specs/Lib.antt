@@ -1,0 +1,4 @@
+pub mod Characters
+pub mod Coordinates
+pub mod Ordering
+pub mod Samples
