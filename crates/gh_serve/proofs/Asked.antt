@@ -6,12 +6,14 @@ use Rattle.map_import.specs.declared.roads.Roads.{Roads}
 use Rattle.map_import.specs.Building.{laid_as}
 use Rattle.script_text.specs.declared.script.ScriptRead.{ScriptRead}
 use Rattle.traffic_core.specs.Lands.{land_of}
-use Rattle.gh_serve.specs.Labels.{labels_asked, size_of}
-use Rattle.gh_serve.specs.Serving.{AreRoadsRead}
-use Rattle.gh_serve.specs.Statuses.{IsShortMap, IsScriptRead, AsksLabels, CountSays, LabelsSay}
-use Rattle.gh_serve.specs.declared.status.Status.{Status}
-use Rattle.gh_serve.specs.declared.status.Status.TheVariants as status
-use Rattle.gh_serve.specs.declared.status.Quantity.TheVariants as quantity
+use Rattle.gh_serve.specs.Labels.{labels_asked}
+use Rattle.map_roads.specs.Cars.{size_of}
+use Rattle.map_roads.specs.Reading.{AreRoadsRead}
+use Rattle.map_roads.specs.Statuses.{IsShortMap}
+use Rattle.gh_serve.specs.Statuses.{IsScriptRead, AsksLabels, CountSays, LabelsSay}
+use Rattle.map_roads.specs.declared.status.Status.{Status}
+use Rattle.map_roads.specs.declared.status.Status.TheVariants as status
+use Rattle.map_roads.specs.declared.status.Quantity.TheVariants as quantity
 
 abbrev count_of : Roads → ScriptRead → ℕ
 count_of found read = labels_asked (size_of (land_of found read.profiles)) read.script

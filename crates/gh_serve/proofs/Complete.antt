@@ -5,35 +5,20 @@ use Rattle.gh_base.specs.Causes.{Rose}
 use Rattle.gh_base.specs.declared.kinds.Form.{Form}
 use Rattle.gh_base.specs.declared.kinds.Form.TheVariants as forms
 use Rattle.gh_base.specs.declared.map.OsmMap.{OsmMap}
-use Rattle.gh_serve.specs.Statuses.{ReadsAs, IsFaultOf, IsMap, IsScriptText, AsksLabels, AreFewLabels, AreManyLabels, IsOfService, IsOfConversion, IsOfRoads, MapSays, ScriptSays, LabelsSay, IsCalm, IsDoneOrNoMemory}
+use Rattle.map_roads.specs.Statuses.{ReadsAs, IsFaultOf, IsMap, IsOfRoads, MapSays, IsCalm, IsDoneOrNoMemory}
+use Rattle.gh_serve.specs.Statuses.{IsScriptText, AsksLabels, AreFewLabels, AreManyLabels, IsOfService, IsOfConversion, ScriptSays, LabelsSay}
+use Rattle.map_roads.proofs.OneMap.{one_map, no_fault}
 use Rattle.gh_serve.specs.Runs.{IsServable}
 use Rattle.gh_serve.specs.Converting.{IsConvertible, ConversionSays}
-use Rattle.gh_serve.specs.declared.status.MapFault.{MapFault}
-use Rattle.gh_serve.specs.declared.status.MapFault.TheVariants as fault
-use Rattle.gh_serve.specs.declared.status.Status.{Status}
-use Rattle.gh_serve.specs.declared.status.Status.TheVariants as status
-use Rattle.gh_serve.specs.declared.status.Which.TheVariants as which
-use Rattle.gh_serve.specs.declared.status.Quantity.TheVariants as quantity
+use Rattle.map_roads.specs.declared.status.MapFault.{MapFault}
+use Rattle.map_roads.specs.declared.status.MapFault.TheVariants as fault
+use Rattle.map_roads.specs.declared.status.Status.{Status}
+use Rattle.map_roads.specs.declared.status.Status.TheVariants as status
+use Rattle.map_roads.specs.declared.status.Which.TheVariants as which
+use Rattle.map_roads.specs.declared.status.Quantity.TheVariants as quantity
 use Rattle.gh_base.specs.declared.kinds.ScriptKind.{ScriptKind}
 use Rattle.script_text.specs.declared.fault.ScriptFault.TheVariants as script_fault
 use Rattle.script_text.specs.Grammar.{script_of}
-
--- the bytes are one map
-pub one_map : (form : Form) (held : List ℕ) (m n : OsmMap) → ReadsAs form held m → ReadsAs form held n → m ≡ n
-one_map forms.Plain held m n a b = cc
-one_map forms.Pbf held m n a b = cc
-
--- a map that has roads has no fault
-pub no_fault : (f : MapFault) (form : Form) (held : List ℕ) → IsMap form held → IsFaultOf f form held → ⊥
-no_fault (fault.Plain line byte kind) forms.Plain held is b = let a = is.reads_as in cc
-no_fault (fault.Plain line byte kind) forms.Pbf held is b = b
-no_fault (fault.Pbf byte kind) forms.Plain held is b = b
-no_fault (fault.Pbf byte kind) forms.Pbf held is b = let a = is.reads_as in cc
-no_fault (fault.Import refusal) form held is b =
-    let same = one_map form held is.map b.0 is.reads_as b.1 in
-    let roads_are = is.roads_are in
-    let refused = b.2 in
-    cc
 
 -- nor a script that is in its grammar
 no_script_fault : (line byte : ℕ) (kind : ScriptKind) (held : List ℕ) → IsScriptText held → script_of held ≡ Err (script_fault.At line byte kind) → ⊥

@@ -3,5 +3,6 @@ pub mod Unwritten
 pub mod Asked
 pub mod Complete
 pub mod LinesBehind
-pub mod CarRoads
 pub mod Pushed
+pub mod Inputs
+pub mod Queries

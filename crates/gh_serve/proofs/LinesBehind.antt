@@ -6,8 +6,9 @@ use Rattle.gh_base.specs.Causes.{AppendsFront}
 use Rattle.gh_base.specs.declared.kinds.Form.{Form}
 use Rattle.map_import.specs.declared.roads.Roads.{Roads}
 use Rattle.road_lines.specs.Lines.{lines_of}
-use Rattle.gh_serve.specs.Statuses.{IsShortMap}
-use Rattle.gh_serve.specs.Roads.{AreRoadsAndWays, WritesRoads, WritesRoadsFront, WritesRoadsPart}
+use Rattle.map_roads.specs.Statuses.{IsShortMap}
+use Rattle.map_roads.specs.Reading.{AreRoadsAndWays}
+use Rattle.gh_serve.specs.Roads.{WritesRoads, WritesRoadsFront, WritesRoadsPart}
 
 -- roads and ways of the map, where its bytes are told
 abbrev pub AreRead : Form → Option (List ℕ) → Roads → List ℤ → Type 0

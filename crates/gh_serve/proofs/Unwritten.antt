@@ -1,7 +1,7 @@
 -- A run of a size ends with none of the statuses that say by themselves that nothing is written.
-use Rattle.gh_serve.specs.Statuses.{IsOfRun, IsUnwritten}
-use Rattle.gh_serve.specs.declared.status.Status.{Status}
-use Rattle.gh_serve.specs.declared.status.Status.TheVariants as status
+use Rattle.map_roads.specs.Statuses.{IsOfRun, IsUnwritten}
+use Rattle.map_roads.specs.declared.status.Status.{Status}
+use Rattle.map_roads.specs.declared.status.Status.TheVariants as status
 
 pub never_unwritten : (s : Status) → IsOfRun s → IsUnwritten s → ⊥
 never_unwritten status.Done of unwritten = unwritten

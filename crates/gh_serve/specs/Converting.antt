@@ -8,12 +8,12 @@ use Rattle.gh_base.specs.declared.map.OsmMap.{OsmMap}
 use Rattle.gh_base.specs.declared.map.OsmWay.{OsmWay}
 use Rattle.plain_map.specs.Printing.{plain_text}
 use Rattle.pbf_wire.specs.Writing.{pbf_text, fits}
-use Rattle.gh_serve.specs.Statuses.{IsShortMap, ReadsAs, IsFaultOf}
-use Rattle.gh_serve.specs.declared.status.MapFault.TheVariants as fault
-use Rattle.gh_serve.specs.declared.status.Status.{Status}
-use Rattle.gh_serve.specs.declared.status.Status.TheVariants as status
-use Rattle.gh_serve.specs.declared.status.Which.TheVariants as which
-use Rattle.gh_serve.specs.declared.status.Quantity.TheVariants as quantity
+use Rattle.map_roads.specs.Statuses.{IsShortMap, ReadsAs, IsFaultOf}
+use Rattle.map_roads.specs.declared.status.MapFault.TheVariants as fault
+use Rattle.map_roads.specs.declared.status.Status.{Status}
+use Rattle.map_roads.specs.declared.status.Status.TheVariants as status
+use Rattle.map_roads.specs.declared.status.Which.TheVariants as which
+use Rattle.map_roads.specs.declared.status.Quantity.TheVariants as quantity
 
 -- a map in a form
 abbrev pub text_in : Form → OsmMap → List ℕ

@@ -1,10 +1,9 @@
 -- How many labels of landmarks a script asks for.
-use Rattle.std.specs.Prelude.{ℕ, ◌+◌, ◌*◌, List, [], ◌∷◌, length}
+use Rattle.std.specs.Prelude.{ℕ, ◌+◌, ◌*◌, List, [], ◌∷◌}
 use Rattle.script_text.specs.declared.script.Command.{Command}
 use Rattle.script_text.specs.declared.script.Command.TheVariants as command
 use Rattle.script_text.specs.declared.script.Line.{Line}
 use Rattle.script_text.specs.declared.script.Script.{Script}
-use Rattle.traffic_core.specs.Lands.{Land}
 
 -- a preparation asks for one of each landmark at each tower and edge, of which there are so many together
 abbrev pub labels_of : ℕ → Command → ℕ
@@ -24,7 +23,3 @@ labels_in_phases size (phase ∷ phases) = labels_in size phase + labels_in_phas
 -- those that all lines of a script ask for
 abbrev pub labels_asked : ℕ → Script → ℕ
 labels_asked size script = labels_in_phases size script.phases
-
--- towers and edges together
-abbrev pub size_of : Land → ℕ
-size_of land = length land.ids + length land.graph.edges

@@ -5,4 +5,4 @@ pub mod Runs
 pub mod Serving
 pub mod Statuses
 pub mod Texts
-pub mod Preps
+pub mod Answers

@@ -1,21 +1,11 @@
 -- What `roads` writes: a line for each edge of a map's roads.
-use Rattle.std.specs.Prelude.{◌≡◌, ◌⊎◌, ℕ, ℤ, List, Option}
+use Rattle.std.specs.Prelude.{◌⊎◌, ℕ, ℤ, List, Option}
 use Rattle.std.specs.Io.KnownBytes.{Appends, Keeps}
 use Rattle.gh_base.specs.Causes.{AppendsFront}
 use Rattle.gh_base.specs.declared.kinds.Form.{Form}
-use Rattle.gh_base.specs.declared.map.OsmMap.{OsmMap}
 use Rattle.map_import.specs.declared.roads.Roads.{Roads}
-use Rattle.map_import.specs.Roads.{ways_of_edges}
 use Rattle.road_lines.specs.Lines.{lines_of}
-use Rattle.gh_serve.specs.Statuses.{ReadsAs}
-use Rattle.gh_serve.specs.Serving.{AreRoadsIn}
-
--- roads are those of the map that these bytes are in a form, and ways are those of its edges
-pub record AreRoadsAndWays (form : Form) (held : List ℕ) (found : Roads) (ways : List ℤ) : Type 0 where
-  pub map : OsmMap
-  pub reads_as : ReadsAs form held map
-  pub roads_are : AreRoadsIn map found
-  pub ways_are : ways ≡ ways_of_edges map
+use Rattle.map_roads.specs.Reading.{AreRoadsAndWays}
 
 -- where they are known, behind its old bytes the sink has a line for each edge of the roads of the map that these bytes are
 pub record WritesRoads (form : Form) (held : List ℕ) (old new : Option (List ℕ)) : Type 0 where

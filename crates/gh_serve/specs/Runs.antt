@@ -1,8 +1,9 @@
 -- What the words of a run ask for, and facts of what is known of it.
 use Rattle.std.specs.Prelude.{ℕ, List, Option, Some, IfSome}
 use Rattle.gh_base.specs.declared.kinds.Form.{Form}
-use Rattle.gh_words.specs.Words.{Asked, Serve, Convert, Generate, Roads, Prep, Check}
-use Rattle.gh_serve.specs.Statuses.{IsMap, IsScriptText, AreFewLabels}
+use Rattle.gh_words.specs.Words.{Asked, Serve, Convert, Generate, Roads, Prep, Check, Both, Turns}
+use Rattle.map_roads.specs.Statuses.{IsMap}
+use Rattle.gh_serve.specs.Statuses.{IsScriptText, AreFewLabels}
 
 -- a fact of the map's name and form, if the words ask for a map to be served
 abbrev pub IfServes : Option Asked → (List ℕ → Form → Type 0) → Type 0
@@ -29,6 +30,17 @@ abbrev pub IfChecks : Option Asked → (List ℕ → Form → Type 0) → Type 0
 IfChecks (Some (Check name form)) P = P name form
 IfChecks other P = Unit {0}
 
+-- how query lines are answered: by searches from both ends, or under the map's turn restrictions
+pub data Way : Type 0 where
+  FromBothEnds : Way
+  UnderTurns : Way
+
+-- a fact of that, of the map's name and form and of the number of landmarks, if they ask for query lines to be answered
+abbrev pub IfAnswers : Option Asked → (Way → List ℕ → Form → ℕ → Type 0) → Type 0
+IfAnswers (Some (Both name form count)) P = P FromBothEnds name form count
+IfAnswers (Some (Turns name form count)) P = P UnderTurns name form count
+IfAnswers other P = Unit {0}
+
 -- a fact of the map's name, if they ask for any of these
 abbrev pub IfReads : Option Asked → (List ℕ → Type 0) → Type 0
 IfReads (Some (Serve name form)) P = P name
@@ -36,6 +48,8 @@ IfReads (Some (Convert name form to)) P = P name
 IfReads (Some (Roads name form)) P = P name
 IfReads (Some (Prep name form count)) P = P name
 IfReads (Some (Check name form)) P = P name
+IfReads (Some (Both name form count)) P = P name
+IfReads (Some (Turns name form count)) P = P name
 IfReads other P = Unit {0}
 
 -- a fact of the size, if they ask for a run made of one
@@ -74,6 +88,18 @@ IfMapChecked asked holds P = IfChecks asked (λ name form. IfSome (holds name) (
 -- and of the store's bytes, where these are known too
 abbrev pub IfStoreChecked : Option Asked → (List ℕ → Option (List ℕ)) → Option (List ℕ) → (List ℕ → Form → List ℕ → List ℕ → Type 0) → Type 0
 IfStoreChecked asked holds left P = IfMapChecked asked holds (λ name form held. IfSome left (P name form held))
+
+-- alike where query lines are to be answered over it
+abbrev pub IfMapAsked : Option Asked → (List ℕ → Option (List ℕ)) → (Way → List ℕ → Form → ℕ → List ℕ → Type 0) → Type 0
+IfMapAsked asked holds P = IfAnswers asked (λ way name form count. IfSome (holds name) (P way name form count))
+
+-- of the lines' bytes, where these are known
+abbrev pub IfLinesAsked : Option Asked → Option (List ℕ) → (List ℕ → Type 0) → Type 0
+IfLinesAsked asked left P = IfAnswers asked (λ way name form count. IfSome left P)
+
+-- of the bytes of both
+abbrev pub IfAllAsked : Option Asked → (List ℕ → Option (List ℕ)) → Option (List ℕ) → (Way → List ℕ → Form → ℕ → List ℕ → List ℕ → Type 0) → Type 0
+IfAllAsked asked holds left P = IfMapAsked asked holds (λ way name form count held. IfSome left (P way name form count held))
 
 -- map and script are right, and ask for no more labels than a run takes
 pub record IsServable (form : Form) (map_bytes script_bytes : List ℕ) : Type 0 where

@@ -11,13 +11,13 @@ use Rattle.gh_base.specs.declared.kinds.ScriptKind.{ScriptKind}
 use Rattle.gh_base.specs.declared.kinds.ScriptKind.TheVariants as script
 use Rattle.prep_store.specs.declared.fault.PrepFault.{PrepFault}
 use Rattle.prep_store.specs.declared.fault.PrepFault.TheVariants as prep
-use Rattle.gh_serve.specs.declared.status.Status.{Status}
-use Rattle.gh_serve.specs.declared.status.Status.TheVariants as status
-use Rattle.gh_serve.specs.declared.status.Which.TheVariants as which
-use Rattle.gh_serve.specs.declared.status.Quantity.{Quantity}
-use Rattle.gh_serve.specs.declared.status.Quantity.TheVariants as quantity
-use Rattle.gh_serve.specs.declared.status.MapFault.{MapFault}
-use Rattle.gh_serve.specs.declared.status.MapFault.TheVariants as fault
+use Rattle.map_roads.specs.declared.status.Status.{Status}
+use Rattle.map_roads.specs.declared.status.Status.TheVariants as status
+use Rattle.map_roads.specs.declared.status.Which.TheVariants as which
+use Rattle.map_roads.specs.declared.status.Quantity.{Quantity}
+use Rattle.map_roads.specs.declared.status.Quantity.TheVariants as quantity
+use Rattle.map_roads.specs.declared.status.MapFault.{MapFault}
+use Rattle.map_roads.specs.declared.status.MapFault.TheVariants as fault
 
 -- the words of kinds: their names
 abbrev pub plain_word : PlainKind → List ℕ

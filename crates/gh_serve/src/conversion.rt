@@ -2,12 +2,12 @@
 ghost use Rattle.std.specs.Prelude.{◌≡◌, ◌≢◌, ◌≤◌, OnOk, OnErr, IfOk, IfErr, IsErrOf, IfSome};
 ghost use Rattle.std.specs.Io.KnownBytes.{Appends, Keeps};
 ghost use Rattle.gh_base.specs.Causes.{Rose, AppendsFront};
-ghost use Rattle.gh_serve.specs.Statuses.{IsOfConversion, IsUnwritten};
+ghost use Rattle.gh_serve.specs.Statuses.{IsOfConversion};
+ghost use Rattle.map_roads.specs.Statuses.{IsUnwritten};
 ghost use Rattle.gh_serve.specs.Converting.{text_in, FitsIn, IsUnfit, Converts, ConvertsFront, ConvertsPart, ConversionSays};
 
-use crate::maps::read_map;
-use crate::status::{Quantity, Status, Which};
 use gh_base::{Form, GiveFault, OsmMap, Sink, Source};
+use map_roads::{Quantity, Status, Which, read_map};
 use pbf_writer::{fits_pbf, write_pbf};
 use plain_map::print_plain;
 use std::alloc::Global;

@@ -3,10 +3,10 @@ ghost use Rattle.std.specs.Prelude.{◌≡◌, ◌≤◌};
 ghost use Rattle.std.specs.Io.KnownBytes.{Keeps};
 ghost use Rattle.gh_base.specs.Causes.{Rose};
 ghost use Rattle.generated_run.specs.Generating.{Generates, GeneratesFront};
-ghost use Rattle.gh_serve.specs.Statuses.{IsCalm, IsDoneOrNoMemory, IsOfRun};
+ghost use Rattle.map_roads.specs.Statuses.{IsCalm, IsDoneOrNoMemory, IsOfRun};
 
-use crate::status::Status;
 use gh_base::{Gate, GiveFault, Sink};
+use map_roads::Status;
 use std::alloc::Global;
 use std::thread::Threads;
 

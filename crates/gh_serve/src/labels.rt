@@ -2,10 +2,8 @@
 ghost use Rattle.std.specs.Prelude.{◌≤◌, ◌<◌, ◌+◌, ◌≡◌, ◌↔◌, IsTrue, IfSome, IfNone};
 ghost use Rattle.gh_serve.specs.Labels.{labels_of, labels_in, labels_asked};
 
+use map_roads::MOST_LABELS;
 use script_text::{Command, Line, Script};
-
-/// The most labels that a script may ask for.
-pub(crate) const MOST_LABELS: u64 = 150_000_000;
 
 /// The labels that a command asks for, where there are so many towers and edges together.
 #[tactic(auto, using(crate::proofs::Sums::product_fits))]

@@ -5,21 +5,18 @@
 //! and says what was written (`specs/Statuses.antt`). Stands on the readers of maps and scripts, on import, and on `script_service`.
 #![tactic(auto)]
 
-mod cars;
 mod commands;
 mod conversion;
 mod generating;
 mod labels;
-mod maps;
 mod scripts;
 mod serving;
-mod status;
 mod texts;
 mod top;
 
 pub use conversion::convert;
 pub use generating::generate;
+pub use map_roads::{MapFault, Quantity, Status, Which};
 pub use serving::serve_script;
-pub use status::{MapFault, Quantity, Status, Which};
 pub use texts::fault_text;
 pub use top::run;

@@ -4,32 +4,10 @@ ghost use Rattle.gh_base.specs.Causes.{Rose};
 ghost use Rattle.script_text.specs.Scripts.{IsScript};
 ghost use Rattle.gh_serve.specs.Statuses.{IsScriptRead, IsOfScript, ScriptSays};
 
-use crate::status::{Quantity, Status, Which};
-use gh_base::{Source, TakeFault, read_whole};
+use gh_base::Source;
+use map_roads::{Status, Which, read_input};
 use script_text::{ScriptFault, ScriptRead, read_script};
 use std::alloc::Global;
-
-/// The most bytes of a script: 16 MiB.
-const LONGEST_SCRIPT: usize = 16_777_216;
-
-fn read_bytes<I: Source>(alloc: Global, source: &mut I) -> Result<Vec<u8>, Status>
-    ensures bytes { IfOk result (λ bytes. IfSome (I.left source.old) (λ held. held ≡ bytes.items)) }
-    ensures short { IfOk result (λ bytes. length bytes.items ≤ 16777216) }
-    ensures err { IfErr result (λ status. IfSome (I.left source.old) (ScriptSays status)) }
-    ensures early { IfErr result IsOfScript }
-    ensures read { IsErrOf result (Status.ReadFault Which.Script) →
-        Rose (I.faults source.old) (I.faults source.new) }
-{
-    match read_whole(alloc, source, LONGEST_SCRIPT) {
-        Ok(bytes) => Ok(bytes),
-        Err(TakeFault::ReadFault) => Err(Status::ReadFault(Which::Script)),
-        Err(TakeFault::NoMemory) => Err(Status::NoMemory),
-        Err(TakeFault::TooLong) => Err(Status::TooLarge {
-            what: Quantity::Script,
-            limit: LONGEST_SCRIPT as u64,
-        }),
-    }
-}
 
 /// The script that bytes are.
 fn parse(alloc: Global, bytes: &[u8]) -> Result<ScriptRead, Status>
@@ -60,7 +38,7 @@ pub(crate) fn read_whole_script<I: Source>(
     ensures fault { IsErrOf result (Status.ReadFault Which.Script) →
         Rose (I.faults source.old) (I.faults source.new) }
 {
-    let bytes = match read_bytes(alloc, source) {
+    let bytes = match read_input(alloc, source) {
         Ok(bytes) => bytes,
         Err(status) => return Err(status),
     };

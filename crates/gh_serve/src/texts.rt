@@ -2,9 +2,9 @@
 ghost use Rattle.std.specs.Prelude.{◌≡◌, ◌++◌, IfOk, OnOk};
 ghost use Rattle.gh_serve.specs.Texts.{plain_word, pbf_word, pbf_more, script_word, quantity_word, place_text, import_word, import_more, prep_text, prep_word, missing_text, map_text, fault_text_of};
 
-use crate::status::{MapFault, Quantity, Status, Which};
 use gh_base::{NoMemory, PbfKind, PlainKind, ScriptKind, Text};
 use map_import::ImportFault;
+use map_roads::{MapFault, Quantity, Status, Which};
 use prep_store::PrepFault;
 use std::alloc::Global;
 

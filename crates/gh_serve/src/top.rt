@@ -4,27 +4,34 @@ ghost use Rattle.std.specs.Io.KnownBytes.{Keeps};
 ghost use Rattle.gh_base.specs.Causes.{Rose};
 ghost use Rattle.generated_run.specs.Generating.{Generates, GeneratesFront};
 ghost use Rattle.gh_words.specs.Words.{asks};
-ghost use Rattle.gh_serve.specs.Runs.{IfReads, IfGenerates, IfMapServed, IfScriptServed, IfBothServed, IfMapConverted, IfRoadsTold, IfMapPrepared, IfMapChecked, IfStoreChecked, IsServable};
+ghost use Rattle.gh_serve.specs.Runs.{IfReads, IfGenerates, IfMapServed, IfScriptServed, IfBothServed, IfMapConverted, IfRoadsTold, IfMapPrepared, IfMapChecked, IfStoreChecked, IfMapAsked, IfLinesAsked, IfAllAsked, IsServable};
 ghost use Rattle.gh_serve.specs.Roads.{WritesRoads, WritesRoadsFront, WritesRoadsPart};
-ghost use Rattle.gh_serve.specs.Statuses.{IsMap, MapSays, ScriptSays, LabelsSay, IsStatusOf, IsSilent, IsCalm, IsDoneOrNoMemory};
-ghost use Rattle.gh_serve.specs.declared.status.Which.TheVariants as which;
+ghost use Rattle.gh_serve.specs.Answers.{Answers, AnswersFront, AnswersPart, IsAnswerable};
+ghost use Rattle.query_lines.specs.Lines.{LinesSay};
+ghost use Rattle.map_roads.specs.Statuses.{IsMap, MapSays, IsCalm, IsDoneOrNoMemory};
+ghost use Rattle.gh_serve.specs.Statuses.{ScriptSays, LabelsSay, IsStatusOf, IsSilent};
+ghost use Rattle.map_roads.specs.declared.status.Which.TheVariants as which;
 ghost use Rattle.gh_serve.specs.Serving.{Serves, ServesFront, ServesPart};
-ghost use Rattle.gh_serve.specs.Preps.{Preps, PrepsFront, PrepsPart, PrepSays, AreFewOfPrep, Checks, ChecksFront, ChecksPart, StoreSays, HasNoFault};
+ghost use Rattle.prep_runs.specs.Preps.{Preps, PrepsFront, PrepsPart, PrepSays, Checks, ChecksFront, ChecksPart, StoreSays, HasNoFault};
+ghost use Rattle.map_roads.specs.Cars.{AreFewOfPrep, FewSay};
 ghost use Rattle.gh_serve.specs.Converting.{Converts, ConvertsFront, ConvertsPart, ConversionSays, IsConvertible};
 
-use crate::commands::{check_map, convert_map, prep_map, roads_map, serve_map};
+use crate::commands::{convert_map, roads_map, serve_map};
 use crate::generating::generate;
-use crate::status::Status;
+use both_runs::both_map;
 use gh_base::{Files, Gate, Sink, Source};
 use gh_words::{Request, WordsFault, read_words};
+use map_roads::Status;
+use prep_runs::{check_map, prep_map};
 use std::alloc::Global;
 use std::thread::Threads;
+use turn_runs::turns_map;
 
 /// Does what the words after the program's name ask for: reads the map of that name, and either
 /// answers the script over its roads and writes the replies and the journal, or writes the map in
 /// another form, or a line for each edge of its roads, or a preparation of them, or what a
-/// preparation is that is read in the script's place; or answers a script made of a size over
-/// roads made of it, and writes the summary.
+/// preparation is that is read in the script's place, or a line for each query that is read there;
+/// or answers a script made of a size over roads made of it, and writes the summary.
 pub fn run<R: Threads + Sync, F: Files, I: Source, K: Sink, G: Gate>(
     rt: &R,
     alloc: Global,
@@ -58,6 +65,12 @@ pub fn run<R: Threads + Sync, F: Files, I: Source, K: Sink, G: Gate>(
     ensures checked { result ≡ Status.Done →
         IfStoreChecked (asks words.now) (F.holds files.old) (I.left script.old)
         (λ _ form held bytes. Checks form held bytes (K.held out.old) (K.held out.new)) }
+
+    // Or a line for each query, by searches from both ends or under the map's turn restrictions.
+    ensures answered { result ≡ Status.Done →
+        IfAllAsked (asks words.now) (F.holds files.old) (I.left script.old)
+        (λ way _ form count held bytes.
+        Answers way form held count bytes (K.held out.old) (K.held out.new)) }
 
     // Or the summary of a run made of a size.
     ensures generated { result ≡ Status.Done →
@@ -95,6 +108,12 @@ pub fn run<R: Threads + Sync, F: Files, I: Source, K: Sink, G: Gate>(
     ensures store { IfStoreChecked (asks words.now) (F.holds files.old) (I.left script.old)
         (λ _. StoreSays result) }
 
+    ensures asked_map { IfMapAsked (asks words.now) (F.holds files.old)
+        (λ _ _ form _. MapSays result form) }
+    ensures asked_labels { IfMapAsked (asks words.now) (F.holds files.old)
+        (λ _ _ form count held. FewSay result form held count) }
+    ensures asked_lines { IfLinesAsked (asks words.now) (I.left script.old) (LinesSay result) }
+
     // Where all bytes are right and no call of the outside failed, nothing but want of memory
     // keeps the run from its end.
     ensures complete { IfBothServed (asks words.now) (F.holds files.old) (I.left script.old)
@@ -126,6 +145,14 @@ pub fn run<R: Threads + Sync, F: Files, I: Source, K: Sink, G: Gate>(
     ensures checked_complete { IfStoreChecked (asks words.now) (F.holds files.old)
         (I.left script.old) (λ name form held bytes. let mark = F.mark_of files.old name in
         IsMap form held → HasNoFault form held bytes →
+        IsCalm (F.failed_brings files.old mark) (F.failed_brings files.new mark) →
+        IsCalm (F.failed_takes files.old mark) (F.failed_takes files.new mark) →
+        IsCalm (I.faults script.old) (I.faults script.new) →
+        IsCalm (K.faults out.old) (K.faults out.new) → IsDoneOrNoMemory result) }
+    ensures answered_complete { IfAllAsked (asks words.now) (F.holds files.old)
+        (I.left script.old) (λ _ name form count held bytes.
+        let mark = F.mark_of files.old name in
+        IsAnswerable form held count bytes →
         IsCalm (F.failed_brings files.old mark) (F.failed_brings files.new mark) →
         IsCalm (F.failed_takes files.old mark) (F.failed_takes files.new mark) →
         IsCalm (I.faults script.old) (I.faults script.new) →
@@ -165,6 +192,14 @@ pub fn run<R: Threads + Sync, F: Files, I: Source, K: Sink, G: Gate>(
     ensures checked_part { result ≡ Status.NoMemory →
         IfStoreChecked (asks words.now) (F.holds files.old) (I.left script.old)
         (λ _ form held bytes. ChecksPart form held bytes (K.held out.old) (K.held out.new)) }
+    ensures answered_front { result ≡ Status.WriteFault →
+        IfAllAsked (asks words.now) (F.holds files.old) (I.left script.old)
+        (λ way _ form count held bytes.
+        AnswersFront way form held count bytes (K.held out.old) (K.held out.new)) }
+    ensures answered_part { result ≡ Status.NoMemory →
+        IfAllAsked (asks words.now) (F.holds files.old) (I.left script.old)
+        (λ way _ form count held bytes.
+        AnswersPart way form held count bytes (K.held out.old) (K.held out.new)) }
     ensures generated_front { result ≡ Status.WriteFault →
         IfGenerates (asks words.now)
         (λ size. GeneratesFront size (K.held out.old) (K.held out.new)) }
@@ -183,6 +218,12 @@ pub fn run<R: Threads + Sync, F: Files, I: Source, K: Sink, G: Gate>(
             prep_map(rt, alloc, files, map, form, count, out)
         }
         Ok(Request::Check { map, form }) => check_map(alloc, files, map, form, script, out),
+        Ok(Request::Both { map, form, count }) => {
+            both_map(rt, alloc, files, map, form, count, script, out)
+        }
+        Ok(Request::Turns { map, form, count }) => {
+            turns_map(rt, alloc, files, map, form, count, script, out)
+        }
         Ok(Request::Generate { size }) => generate(rt, alloc, size, out, gate),
         Err(WordsFault::Usage) => Status::Usage,
         Err(WordsFault::NoMemory) => Status::NoMemory,

@@ -11,7 +11,8 @@ use Rattle.gh_words.specs.declared.request.Request.{Request}
 use Rattle.gh_words.specs.declared.request.Request.TheVariants as request
 
 -- to serve queries from the map of a name, in a form; to write that map in a form; to answer a script made of a size; to
--- write the roads of the map of a name; to prepare it with so many landmarks; or to check a preparation of it
+-- write the roads of the map of a name; to prepare it with so many landmarks; to check a preparation of it; or, with so
+-- many landmarks, to answer query lines by searches from both ends, or under its turn restrictions
 pub data Asked : Type 0 where
   Serve : (map : List ℕ) → (form : Form) → Asked
   Convert : (map : List ℕ) → (form : Form) → (to : Form) → Asked
@@ -19,6 +20,8 @@ pub data Asked : Type 0 where
   Roads : (map : List ℕ) → (form : Form) → Asked
   Prep : (map : List ℕ) → (form : Form) → (count : ℕ) → Asked
   Check : (map : List ℕ) → (form : Form) → Asked
+  Both : (map : List ℕ) → (form : Form) → (count : ℕ) → Asked
+  Turns : (map : List ℕ) → (form : Form) → (count : ℕ) → Asked
 
 -- what a request says
 abbrev pub asked_by : Request → Asked
@@ -28,6 +31,8 @@ asked_by (request.Generate size) = Generate size
 asked_by (request.Roads map form) = Roads map.now form
 asked_by (request.Prep map form count) = Prep map.now form count
 asked_by (request.Check map form) = Check map.now form
+asked_by (request.Both map form count) = Both map.now form count
+asked_by (request.Turns map form count) = Turns map.now form count
 
 -- an option that stands exactly once, and has one value
 abbrev pub option_of : Word → Rule
@@ -51,9 +56,9 @@ convert_app = with_rule (map_app (codes "convert")) (option_of (codes "to"))
 abbrev pub generate_app : App
 generate_app = with_rule (bare_app (codes "generate")) (option_of (codes "size"))
 
--- the command `prep`, to clap
-abbrev pub prep_app : App
-prep_app = with_rule (map_app (codes "prep")) (option_of (codes "count"))
+-- a command on a map in a form that asks for a number of landmarks
+abbrev pub counted_app : Word → App
+counted_app name = with_rule (map_app name) (option_of (codes "count"))
 
 -- a word that is nothing but one or two minus signs
 abbrev pub is_dashes : Word → Bool
@@ -95,6 +100,8 @@ pub record IsFrom (lowest highest n : ℕ) : Type 0 where
 abbrev pub IsInBounds : Request → Type 0
 IsInBounds (request.Generate size) = IsFrom 2 300 size
 IsInBounds (request.Prep map form count) = IsFrom 1 16 count
+IsInBounds (request.Both map form count) = IsFrom 1 16 count
+IsInBounds (request.Turns map form count) = IsFrom 1 16 count
 IsInBounds request = Unit {0}
 
 abbrev pub begins_with_zero : Word → Bool
@@ -139,12 +146,18 @@ generate_in rows = do
   size ← number_in (codes "size") 2 300 rows
   Some (Generate size)
 
--- what the options of `prep` say
-abbrev pub prep_in : List Row → Option Asked
-prep_in rows = do
+-- where a map is, in which form, and a number of landmarks
+pub record CountedMap : Type 0 where
+  pub map : List ℕ
+  pub form : Form
+  pub count : ℕ
+
+-- what the options of a map and of a number of landmarks say
+abbrev pub counted_in : List Row → Option CountedMap
+counted_in rows = do
   at ← map_at_in rows
   count ← number_in (codes "count") 1 16 rows
-  Some (Prep at.map at.form count)
+  Some (record { map = at.map; form = at.form; count = count })
 
 -- what the words of a command of this name on a map say, itself the first of them
 unfoldable pub map_words : Word → List Word → Option MapAt
@@ -176,9 +189,27 @@ convert_asked words = found_in convert_app words >>= convert_in
 unfoldable pub generate_asked : List Word → Option Asked
 generate_asked words = found_in generate_app words >>= generate_in
 
--- what the words of `prep` ask for, alike
-unfoldable pub prep_asked : List Word → Option Asked
-prep_asked words = found_in prep_app words >>= prep_in
+-- what the words of a command of this name say of a map and of a number of landmarks, alike
+unfoldable pub counted_words : Word → List Word → Option CountedMap
+counted_words name words = found_in (counted_app name) words >>= counted_in
+
+-- what the words of `prep` ask for
+abbrev pub prep_asked : List Word → Option Asked
+prep_asked words = do
+  at ← counted_words (codes "prep") words
+  Some (Prep at.map at.form at.count)
+
+-- what the words of `both` ask for
+abbrev pub both_asked : List Word → Option Asked
+both_asked words = do
+  at ← counted_words (codes "both") words
+  Some (Both at.map at.form at.count)
+
+-- what the words of `turns` ask for
+abbrev pub turns_asked : List Word → Option Asked
+turns_asked words = do
+  at ← counted_words (codes "turns") words
+  Some (Turns at.map at.form at.count)
 
 -- what the words ask for, by the first of them; none where they are refused
 unfoldable pub asked : List Word → Option Asked
@@ -190,6 +221,8 @@ asked (first ∷ words) =
     else if bytes_eq first (codes "roads") then roads_asked (first ∷ words)
     else if bytes_eq first (codes "prep") then prep_asked (first ∷ words)
     else if bytes_eq first (codes "check") then check_asked (first ∷ words)
+    else if bytes_eq first (codes "both") then both_asked (first ∷ words)
+    else if bytes_eq first (codes "turns") then turns_asked (first ∷ words)
     else None
 
 -- what the words of a command line ask for

@@ -6,11 +6,11 @@
 #![tactic(auto)]
 
 mod convert;
+mod counted;
 mod generate;
 mod numbers;
 mod on_map;
 mod options;
-mod prep;
 mod request;
 mod words;
 

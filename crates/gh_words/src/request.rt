@@ -32,6 +32,19 @@ pub enum Request<'a> {
         form: Form,
         count: u32,
     },
+    /// To answer query lines by searches from both ends over the map of this name, which is in this form, with
+    /// at most `count` landmarks.
+    Both {
+        map: &'a str,
+        form: Form,
+        count: u32,
+    },
+    /// To answer query lines under the turn restrictions of the map of this name, alike.
+    Turns {
+        map: &'a str,
+        form: Form,
+        count: u32,
+    },
     /// To check a preparation that was written of the map of this name, which is in this form.
     Check {
         map: &'a str,

@@ -3,9 +3,9 @@ ghost use Rattle.std.specs.Prelude.{◌≡◌, IfOk, IsErrOf, None, Some};
 ghost use Rattle.gh_words.specs.Words.{IsInBounds, asks, asked_by};
 
 use crate::convert::read_convert;
+use crate::counted::{read_both, read_prep, read_turns};
 use crate::generate::read_generate;
 use crate::on_map::{read_check, read_roads, read_serve};
-use crate::prep::read_prep;
 use crate::request::{Request, WordsFault};
 use std::alloc::Global;
 
@@ -25,6 +25,8 @@ pub fn read_words<'a>(alloc: Global, words: &'a [String]) -> Result<Request<'a>,
         [first, ..] if first.as_str() == "roads" => read_roads(alloc, words),
         [first, ..] if first.as_str() == "prep" => read_prep(alloc, words),
         [first, ..] if first.as_str() == "check" => read_check(alloc, words),
+        [first, ..] if first.as_str() == "both" => read_both(alloc, words),
+        [first, ..] if first.as_str() == "turns" => read_turns(alloc, words),
         _ => Err(WordsFault::Usage),
     }
 }

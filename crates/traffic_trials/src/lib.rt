@@ -4,8 +4,6 @@
 #![tactic(auto)]
 
 #[cfg(test)]
-mod route_sessions_calls;
-#[cfg(test)]
 mod row;
 #[cfg(test)]
 mod script_text_calls;

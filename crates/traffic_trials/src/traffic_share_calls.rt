@@ -20,44 +20,6 @@ const SECOND: DirEdge = DirEdge {
     reverse: false,
 };
 
-/// A preparation that another list has left behind is refused, at the first directed edge that it would overrate.
-fn refuse_below<J: Naming, R: Threads + Sync + Abort>(
-    rt: &R,
-    alloc: Global,
-    ground: &Ground,
-) -> Result<(), NoMemory>
-    requires land { ground.now ≡ J.land }
-    requires profiles { length J.land.profiles ≡ 1 }
-{
-    let log = Log::<J>::new(alloc, 1)?;
-    let mut seat = Seat::new(alloc, &log, ground, 1)?;
-    assert_eq!(rt;
-        seat.lower(1, 1, false, 30_000)?,
-        LowerReply::Lowered { at: 1 }
-    );
-    let Some(prep) = seat.prepare(rt, CAR, 2)? else {
-        todo!(rt)
-    };
-    let other = Log::<J>::new(alloc, 1)?;
-    let mut seat = Seat::new(alloc, &other, ground, 1)?;
-    let want = PublishReply::NotInForce {
-        at: 0,
-        edge: SECOND,
-        then: 30_000,
-        now: 60_000,
-    };
-    assert_eq!(rt; seat.publish(1, &prep)?, want);
-    Ok(())
-}
-
-#[test]
-fn a_preparation_of_lower_limits_is_not_in_force(rt: HostRuntime) -> Result<(), Fail> {
-    let alloc = rt.alloc();
-    let ground = row_of_towers(alloc)?;
-    refuse_below::<Brand, HostRuntime>(&rt, alloc, &ground)?;
-    Ok(())
-}
-
 /// What a change answered. Where it wanted memory, the other seat finds nothing of it.
 fn done<J: Naming, T: Drop>(
     rt: &impl Abort,

@@ -1,0 +1,4 @@
+pub mod Opening
+pub mod Views
+pub mod Answered
+pub mod OverMaps

@@ -1,0 +1,4 @@
+pub mod Guided
+pub mod Lines
+pub mod Statuses
+pub mod Runs

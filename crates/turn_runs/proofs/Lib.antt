@@ -1,0 +1,4 @@
+pub mod Guided
+pub mod Searched
+pub mod Told
+pub mod Behind

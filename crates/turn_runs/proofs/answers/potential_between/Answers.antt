@@ -1,0 +1,7 @@
+use Rattle.turn_runs.proofs.Guided.{feasible_between}
+use Rattle.turn_runs.proofs.answers.potential_between.Goals as goal
+
+pub returns-clause-feasible : goal.returns-clause-feasible
+returns-clause-feasible c =
+    feasible_between c.args.ground.now c.args.prep.now c.requires.prep.0 c.requires.prep.1 c.requires.graph c.preparations_are_one.ensures.nodes
+    c.preparations_fit.ensures c.no_hop_is_faster.ensures c.args.to _ c.potential.ensures.feasible
