@@ -1,4 +1,4 @@
-//! Roads for trials.
+//! A road for trials.
 ghost use Rattle.std.specs.Prelude.{◌≡◌, length, IfOk};
 
 use gh_base::SureSource;
@@ -9,15 +9,14 @@ use std::test::Fail;
 use traffic_core::Ground;
 use weighting::{Profiles, car_profile};
 
-/// Three towers in a row, 1111949 mm apart, on roads where cars go 60 km/h.
-const ROW: &str =
-    "n1 y0 x0\nn2 y0 x0.01\nn3 y0 x0.02\nw10 Thighway=secondary Nn1,n2\nw11 Thighway=secondary Nn2,n3\n";
+/// One road between two towers, where cars go 60 km/h.
+const ROAD: &str = "n1 y0 x0\nn2 y0 x1\nw1 Thighway=secondary Nn1,n2\n";
 
-/// Three towers in a row, with one profile, for cars.
-pub(crate) fn row_of_towers(alloc: Global) -> Result<Ground, Fail>
+/// The road, with one profile, for cars.
+pub(crate) fn road(alloc: Global) -> Result<Ground, Fail>
     ensures { IfOk result (λ made. length made.profiles ≡ 1) }
 {
-    let mut source = SureSource::new(ROW.as_bytes(), 4096);
+    let mut source = SureSource::new(ROAD.as_bytes(), 4096);
     let map = read_plain(alloc, &mut source)?;
     let roads = import(alloc, &map)?;
     let mut profiles = Profiles::new(alloc);
