@@ -1,25 +1,12 @@
-//! Tries public calls of the crates that search: `search_queue`, `alt_search`, `query_graph`, labels and landmarks.
+//! Tries calls of the crates that search, `search_queue` and `label_certificate`, that no run of the program shows.
 //!
-//! It is no part of the program: tests stand here since a crate with tests is proved twice.
+//! It is no part of the program: tests stand here since a crate with tests is proved twice. Walks, labels and landmarks are
+//! rows of examples/tables.
 #![tactic(auto)]
 
 #[cfg(test)]
-mod alt_search_exploring;
-#[cfg(test)]
-mod alt_search_finding;
-#[cfg(test)]
 mod label_certificate_calls;
-#[cfg(test)]
-mod label_spread_calls;
-#[cfg(test)]
-mod landmark_choice_calls;
-#[cfg(test)]
-mod landmark_prep_calls;
-#[cfg(test)]
-mod query_graph_calls;
 #[cfg(test)]
 mod search_queue_calls;
 #[cfg(test)]
 mod sound;
-#[cfg(test)]
-mod two_way_search_calls;
