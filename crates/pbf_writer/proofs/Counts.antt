@@ -1,7 +1,8 @@
 -- How many bytes are written.
+use Rattle.std.proofs.lemmas.Bool.{cases_Bool}
 use Rattle.std.proofs.lemmas.Bool.Decides.{nat_tests}
 use Rattle.std.proofs.Math.Nat.{pow-suc}
-use Rattle.std.proofs.Common.{◌≡◌, ℕ, ◌+◌, ◌*◌, ◌/◌, ◌%◌, ◌^◌, ◌<◌, ◌≤◌, zero, suc, List, [], ◌∷◌, ◌++◌, length, Bool, true, false, ltb, ap, arith, length-append, append-nil, if◌then◌else◌}
+use Rattle.std.proofs.Common.{◌≡◌, ℕ, ◌+◌, ◌*◌, ◌/◌, ◌%◌, ◌^◌, ◌<◌, ◌≤◌, inl, inr, zero, suc, List, [], ◌∷◌, ◌++◌, length, true, false, ltb, arith, length-append}
 use Rattle.pbf_wire.specs.Put.{bytes_in, varint_bytes, bytes_field}
 use Rattle.pbf_wire.specs.Parts.{Part, part_text}
 use Rattle.pbf_wire.specs.Writing.{header_text}
@@ -39,11 +40,10 @@ few_count size left whole p = omega (arith, p.room)
 
 bytes_in_most : (most n : ℕ) → length (bytes_in most n) ≤ most
 bytes_in_most zero n = omega arith
-bytes_in_most (suc most) n = by_test (ltb n 128) (bytes_in most (n / 128)) (bytes_in_most most (n / 128))
-  where
-    by_test : (t : Bool) (rest : List ℕ) → length rest ≤ most → length (if t then n ∷ [] else (n % 128 + 128) ∷ rest) ≤ suc most
-    by_test true rest h = omega arith
-    by_test false rest h = omega arith
+bytes_in_most (suc most) n = elim (cases_Bool (ltb n 128)) [
+  | inl t ↦ rw t (omega arith)
+  | inr f ↦ rw f (omega (arith, bytes_in_most most (n / 128)))
+]
 
 pub varint_most : (n : ℕ) → length (varint_bytes n) ≤ 10
 unfolding varint_bytes
@@ -51,25 +51,11 @@ varint_most n = bytes_in_most 10 n
 
 pub field_most : (number : ℕ) (content : List ℕ) → length (bytes_field number content) ≤ length content + 20
 unfolding bytes_field
-field_most number content =
-    let key = varint_most (8 * number + 2) in
-    let size = varint_most (length content) in
-    let first : length (varint_bytes (8 * number + 2) ++ (varint_bytes (length content) ++ content)) ≡ length (varint_bytes (8 * number + 2)) + length (varint_bytes (length content) ++ content) = length-append (varint_bytes (8 * number + 2)) (varint_bytes (length content) ++ content) in
-    let second : length (varint_bytes (length content) ++ content) ≡ length (varint_bytes (length content)) + length content = length-append (varint_bytes (length content)) content in
-    omega arith
+field_most number content = omega (arith, varint_most (8 * number + 2), varint_most (length content), length-append {A = ℕ})
 
 pub number_most : (number value : ℕ) → length (part_text (Part.Number number value)) ≤ 20
-number_most number value =
-    let key = varint_most (8 * number) in
-    let val = varint_most value in
-    let both : length (varint_bytes (8 * number) ++ varint_bytes value) ≡ length (varint_bytes (8 * number)) + length (varint_bytes value) = length-append (varint_bytes (8 * number)) (varint_bytes value) in
-    omega arith
+number_most number value = omega (arith, varint_most (8 * number), varint_most value, length-append {A = ℕ})
 
 -- a BlobHeader is short
 pub header_most : (name : List ℕ) (size : ℕ) → length (header_text name size) ≤ length name + 40
-header_most name size =
-    let first = field_most 1 name in
-    let second = number_most 3 size in
-    let one : length (bytes_field 1 name ++ (part_text (Part.Number 3 size) ++ [])) ≡ length (bytes_field 1 name) + length (part_text (Part.Number 3 size) ++ []) = length-append (bytes_field 1 name) (part_text (Part.Number 3 size) ++ []) in
-    let two : length (part_text (Part.Number 3 size) ++ []) ≡ length (part_text (Part.Number 3 size)) = ap length (append-nil (part_text (Part.Number 3 size))) in
-    omega arith
+header_most name size = omega (arith, field_most 1 name, number_most 3 size, length-append {A = ℕ})

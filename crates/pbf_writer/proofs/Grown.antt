@@ -1,17 +1,18 @@
 -- A block of ways with one way more.
 use Rattle.std.proofs.Math.Seq.{take-append_seam}
 use Rattle.std.proofs.lemmas.List.{drop_more, take_more}
+use Rattle.std.proofs.lemmas.List.Elements.{All-tail, recursion_from_All}
 use Rattle.std.proofs.Common.{◌≡◌, ◌∙◌, ℕ, ◌+◌, ◌<◌, Bool, true, false, List, [], ◌∷◌, ◌++◌, length, map, take, drop, get_or, refl, sym, ap, arith, append_assoc, append-nil, length-append}
 use Rattle.std.specs.List.{AllByRecursion}
 use Rattle.gh_base.specs.declared.map.OsmTag.{OsmTag}
 use Rattle.gh_base.specs.declared.map.OsmWay.{OsmWay}
 use Rattle.pbf_wire.specs.Put.{bytes_field}
 use Rattle.pbf_wire.specs.Parts.{Part, message_text}
-use Rattle.pbf_wire.specs.Writing.{words_of, all_words, table_of, index_of, way_text, strings_text, block_text, ways_block}
+use Rattle.pbf_wire.specs.Writing.{firsts, words_of, all_words, table_of, index_of, way_text, strings_text, block_text, ways_block}
 use Rattle.pbf_writer.specs.declared.ways.WaysBlock.{WaysBlock}
 use Rattle.pbf_writer.specs.Strings.{spelled, with_word, grown, IsText}
 use Rattle.pbf_writer.specs.Growing.{IsBlockOf, IsWrittenAs, Tried}
-use Rattle.pbf_writer.proofs.Tables.{Has, key_place, value_place, place_grown, firsts_has, table_push, grown_more}
+use Rattle.pbf_writer.proofs.Tables.{Has, key_place, value_place, place_grown, firsts_has, table_push, grown_more, strings_append}
 
 -- the tag that is next, and those behind it
 pub next_tag : (tags : List OsmTag) (i : ℕ) (tag : OsmTag) → i < length tags → tag ≡ get_or tags i tag → drop i tags ≡ tag ∷ drop (i + 1) tags
@@ -19,33 +20,20 @@ next_tag tags i tag h e = drop_more tags i tag h ∙ ap (λ t. t ∷ drop (i + 1
 
 -- the strings after one tag more
 pub words_more : (left more : List OsmTag) (tag : OsmTag) (key value : List ℕ) (table one two whole : List (List ℕ)) → left ≡ tag ∷ more → key ≡ tag.key → value ≡ tag.value → one ≡ with_word table key → two ≡ with_word one value → grown table (words_of left) ≡ whole → grown two (words_of more) ≡ whole
-words_more left more tag key value table one two whole e k v f g before =
-    let opened : grown table (words_of (tag ∷ more)) ≡ whole = (rw e at before) in
-    let both : two ≡ with_word (with_word table tag.key) tag.value = g ∙ ap (λ t. with_word t value) (f ∙ ap (with_word table) k) ∙ ap (with_word (with_word table tag.key)) v in
-    ap (λ t. grown t (words_of more)) both ∙ opened
+words_more left more tag key value table one two whole e k v f g before = rw (g, f, k, v) (rw e at before)
 
 -- the place of its key, and that of its value
 pub keys_more : (left more : List OsmTag) (tag : OsmTag) (key : List ℕ) (table one final : List (List ℕ)) (old now whole : List ℕ) (place : ℕ) → left ≡ tag ∷ more → key ≡ tag.key → one ≡ with_word table key → grown table (words_of left) ≡ final → place ≡ index_of one key → now ≡ old ++ place ∷ [] →
     old ++ map (λ (tag : OsmTag). index_of final tag.key) left ≡ whole → now ++ map (λ (tag : OsmTag). index_of final tag.key) more ≡ whole
 keys_more left more tag key table one final old now whole place e k f last is put before =
-    let opened : grown table (tag.key ∷ tag.value ∷ words_of more) ≡ final = (rw e at last) in
-    let one_is : one ≡ with_word table tag.key = f ∙ ap (with_word table) k in
-    let stands : index_of final tag.key ≡ index_of (with_word table tag.key) tag.key = ap (λ t. index_of t tag.key) (sym opened) ∙ key_place table (words_of more) tag.key tag.value in
-    let same : place ≡ index_of final tag.key = is ∙ ap (index_of one) k ∙ ap (λ t. index_of t tag.key) one_is ∙ sym stands in
-    let rest = map (λ (tag : OsmTag). index_of final tag.key) more in
-    let seen : old ++ (index_of final tag.key ∷ rest) ≡ whole = (rw e at before) in
-    ap (λ l. l ++ rest) put ∙ append_assoc old (place ∷ []) rest ∙ ap (λ p. old ++ (p ∷ rest)) same ∙ seen
+    let stands : index_of final tag.key ≡ index_of (with_word table tag.key) tag.key = rw (← last, e) (key_place table (words_of more) tag.key tag.value) in
+    rw (put, is, f, k, ← stands, append_assoc) (rw e at before)
 
 pub values_more : (left more : List OsmTag) (tag : OsmTag) (key value : List ℕ) (table one two final : List (List ℕ)) (old now whole : List ℕ) (place : ℕ) → left ≡ tag ∷ more → key ≡ tag.key → value ≡ tag.value → one ≡ with_word table key → two ≡ with_word one value → grown table (words_of left) ≡ final → place ≡ index_of two value → now ≡ old ++ place ∷ [] →
     old ++ map (λ (tag : OsmTag). index_of final tag.value) left ≡ whole → now ++ map (λ (tag : OsmTag). index_of final tag.value) more ≡ whole
 values_more left more tag key value table one two final old now whole place e k v f g last is put before =
-    let opened : grown table (tag.key ∷ tag.value ∷ words_of more) ≡ final = (rw e at last) in
-    let two_is : two ≡ with_word (with_word table tag.key) tag.value = g ∙ ap (λ t. with_word t value) (f ∙ ap (with_word table) k) ∙ ap (with_word (with_word table tag.key)) v in
-    let stands : index_of final tag.value ≡ index_of (with_word (with_word table tag.key) tag.value) tag.value = ap (λ t. index_of t tag.value) (sym opened) ∙ value_place table (words_of more) tag.key tag.value in
-    let same : place ≡ index_of final tag.value = is ∙ ap (index_of two) v ∙ ap (λ t. index_of t tag.value) two_is ∙ sym stands in
-    let rest = map (λ (tag : OsmTag). index_of final tag.value) more in
-    let seen : old ++ (index_of final tag.value ∷ rest) ≡ whole = (rw e at before) in
-    ap (λ l. l ++ rest) put ∙ append_assoc old (place ∷ []) rest ∙ ap (λ p. old ++ (p ∷ rest)) same ∙ seen
+    let stands : index_of final tag.value ≡ index_of (with_word (with_word table tag.key) tag.value) tag.value = rw (← last, e) (value_place table (words_of more) tag.key tag.value) in
+    rw (put, is, g, f, k, v, ← stands, append_assoc) (rw e at before)
 
 pub all_front : {X : Type 0} (P : X → Type 0) (xs ys : List X) → AllByRecursion P (xs ++ ys) → AllByRecursion P xs
 all_front P [] ys h = tt
@@ -78,7 +66,7 @@ ways_stay table more (way ∷ ways) h = rw (way_stays table more way (all_front 
 
 pub table_has : (ways : List OsmWay) → AllByRecursion (Has (table_of ways)) (all_words ways)
 unfolding table_of
-table_has ways = (firsts_has ([] ∷ all_words ways)).1
+table_has ways = recursion_from_All (Has (firsts ([] ∷ all_words ways))) (all_words ways) (All-tail (Has (firsts ([] ∷ all_words ways))) [] (all_words ways) (firsts_has ([] ∷ all_words ways)))
 
 ways_push : (table : List (List ℕ)) (ways : List OsmWay) (way : OsmWay) → ways_of table (ways ++ way ∷ []) ≡ ways_of table ways ++ bytes_field 3 (way_text table way)
 ways_push table [] way = append-nil (bytes_field 3 (way_text table way))
@@ -87,10 +75,6 @@ ways_push table (first ∷ ways) way = ap (λ l. bytes_field 3 (way_text table f
 -- the group of one way more
 group_more : (ways : List OsmWay) (way : OsmWay) → ways_of (table_of (ways ++ way ∷ [])) (ways ++ way ∷ []) ≡ ways_of (table_of ways) ways ++ bytes_field 3 (way_text (table_of (ways ++ way ∷ [])) way)
 group_more ways way = ways_push (table_of (ways ++ way ∷ [])) ways way ∙ ap (λ l. l ++ bytes_field 3 (way_text (table_of (ways ++ way ∷ [])) way)) (ap (λ t. ways_of t ways) (table_push ways way) ∙ ways_stay (table_of ways) (words_of way.tags) ways (table_has ways))
-
-strings_append : (table more : List (List ℕ)) → strings_text (table ++ more) ≡ strings_text table ++ strings_text more
-strings_append [] more = refl
-strings_append (word ∷ table) more = ap (λ l. bytes_field 1 word ++ l) (strings_append table more) ∙ sym (append_assoc (bytes_field 1 word) (strings_text table) (strings_text more))
 
 -- and its table
 text_more : (ways : List OsmWay) (way : OsmWay) → (more : List ℕ) × (strings_text (table_of (ways ++ way ∷ [])) ≡ strings_text (table_of ways) ++ more)
@@ -146,14 +130,9 @@ pub one_way : (ways : List OsmWay) (way : OsmWay) (block : WaysBlock) → 0 < le
 one_way [] way block some e is = absurd (omega arith)
 one_way (first ∷ ways) way block some e is = rw (← e) is
 
--- and that of one more
-pub next_way : (ways : List OsmWay) (i : ℕ) (way : OsmWay) (block : WaysBlock) → i < length ways → way ≡ get_or ways i way → IsBlockOf (take i ways ++ way ∷ []) block → IsBlockOf (take (i + 1) ways) block
-next_way ways i way block h e is =
-    let more : take (i + 1) ways ≡ take i ways ++ way ∷ [] = take_more ways i way h ∙ ap (λ w. take i ways ++ w ∷ []) (sym e) in
-    rw more is
-
-pub next_long : (ways : List OsmWay) (i : ℕ) (way : OsmWay) → i < length ways → way ≡ get_or ways i way → ways_block (take i ways ++ way ∷ []) ≡ ways_block (take (i + 1) ways)
-next_long ways i way h e = ap ways_block (sym (take_more ways i way h ∙ ap (λ w. take i ways ++ w ∷ []) (sym e)))
+-- and those of one more
+pub next_take : (ways : List OsmWay) (i : ℕ) (way : OsmWay) → i < length ways → way ≡ get_or ways i way → take i ways ++ way ∷ [] ≡ take (i + 1) ways
+next_take ways i way h e = ap (λ w. take i ways ++ w ∷ []) e ∙ sym (take_more ways i way h)
 
 pub was_added : (added : Bool) (ways : List OsmWay) (way : OsmWay) (block : WaysBlock) → added ≡ true → Tried added ways way block → Tried true ways way block
 was_added added ways way block e tried = rw e at tried

@@ -3,9 +3,10 @@ use Rattle.std.proofs.lemmas.Bool.Decides.{nat_tests}
 use Rattle.std.proofs.lemmas.Bool.{eq-eqb}
 use Rattle.std.proofs.lemmas.Int.{ints, fits_signed_from_abs, wrapping_sub_is, int_wrap_fits}
 use Rattle.std.proofs.lemmas.List.{length-map}
+use Rattle.std.proofs.lemmas.List.Elements.{All-map, All-weaker, recursion_from_All}
 use Rattle.std.proofs.Math.IntN.{+ℤ_comm, -ℤ-+ℤ_cancel}
 use Rattle.std.proofs.Common.{◌≡◌, ◌∙◌, ℕ, ◌+◌, ◌*◌, ◌/◌, ◌%◌, ◌^◌, ◌<◌, ◌≤◌, ◌==◌, suc, ℤ, pos, negsuc, ◌+ℤ◌, ◌-ℤ◌, ◌*ℤ◌, nat_abs, List, [], ◌∷◌, ◌++◌, length, map, Some, None, Ok, true, leb, refl, sym, ap, arith, append-nil}
-use Rattle.std.specs.List.{AllByRecursion}
+use Rattle.std.specs.List.{All, AllByRecursion}
 use Rattle.std.specs.Int.{int_div_euclid, int_wrapping_sub, w64}
 use Rattle.gh_base.specs.declared.map.OsmNode.{OsmNode}
 use Rattle.pbf_wire.specs.declared.messages.Dense.{Dense}
@@ -14,7 +15,7 @@ use Rattle.pbf_wire.specs.Pieces.{part_of}
 use Rattle.pbf_wire.specs.Deltas.{zigzag_of, is_id, ids_from, coordinate_of, coordinates_from}
 use Rattle.pbf_wire.specs.Dense.{dense_of, dense_with, nodes_of}
 use Rattle.pbf_wire.specs.Parts.{message_text, sint, deltas}
-use Rattle.gh_base.specs.Maps.{IsShort}
+use Rattle.gh_base.specs.Maps.{IsShort, IsFileNode}
 use Rattle.pbf_wire.specs.Writing.{dense_parts}
 use Rattle.pbf_writer.proofs.FieldsRead.{IsPart, message_read}
 use Rattle.pbf_writer.proofs.ListsRead.{values_read}
@@ -93,11 +94,9 @@ sides_again : (nodes : List OsmNode) → nodes_of (map (λ node. node.id) nodes)
 sides_again [] = refl
 sides_again (node ∷ nodes) = ap (λ l. node ∷ l) (sides_again nodes)
 
--- what nodes are when they can be written
-pub record AreNodes (nodes : List OsmNode) : Type 0 where
-  pub ids : AllByRecursion IsShort (map (λ node. node.id) nodes)
-  pub lats : AllByRecursion (λ z. nat_abs z ≤ 900000000) (map (λ node. node.place.lat) nodes)
-  pub lons : AllByRecursion (λ z. nat_abs z ≤ 1800000000) (map (λ node. node.place.lon) nodes)
+-- what is true of each item, of what each becomes
+pub all_of : {X Y : Type 0} (P : X → Type 0) (Q : Y → Type 0) (f : X → Y) → ((x : X) → P x → Q (f x)) → (xs : List X) → All P xs → AllByRecursion Q (map f xs)
+all_of P Q f h xs all = recursion_from_All Q (map f xs) (All-map Q f xs (All-weaker P (λ x. Q (f x)) h xs all))
 
 -- the scale of a block without one
 abbrev pub plain_scale : Scale
@@ -110,15 +109,18 @@ dense_message place nodes = record { place = place; ids = deltas (pos 0) (map (�
 same_length : (xs ys : List ℤ) → length xs ≡ length ys → (length (deltas (pos 0) xs) == length (deltas (pos 0) ys)) ≡ true
 same_length xs ys e = rw (length-deltas (pos 0) xs, length-deltas (pos 0) ys) (eq-eqb (length xs) (length ys) e)
 
-pub dense_again : (place : ℕ) (nodes : List OsmNode) → AreNodes nodes → dense_with plain_scale (dense_message place nodes) ≡ Ok nodes
+pub dense_again : (place : ℕ) (nodes : List OsmNode) → All IsFileNode nodes → dense_with plain_scale (dense_message place nodes) ≡ Ok nodes
 unfolding dense_with
-dense_again place nodes h =
+dense_again place nodes all =
     let ids = map (λ (node : OsmNode). node.id) nodes in
     let lats = map (λ (node : OsmNode). node.place.lat) nodes in
     let lons = map (λ (node : OsmNode). node.place.lon) nodes in
     let first : (length (deltas (pos 0) ids) == length (deltas (pos 0) lats)) ≡ true = same_length ids lats (length-map nodes (λ node. node.id) ∙ sym (length-map nodes (λ node. node.place.lat))) in
     let second : (length (deltas (pos 0) ids) == length (deltas (pos 0) lons)) ≡ true = same_length ids lons (length-map nodes (λ node. node.id) ∙ sym (length-map nodes (λ node. node.place.lon))) in
-    rw (first, second, ids_again place (pos 0) ids zero_small h.ids, coordinates_again place 900000000 (pos 0) lats (omega arith) zero_small h.lats, coordinates_again place 1800000000 (pos 0) lons (omega arith) zero_small h.lons, sides_again nodes) refl
+    let short = all_of IsFileNode IsShort (λ (node : OsmNode). node.id) (λ node h. h.id) nodes all in
+    let north = all_of IsFileNode (λ z. nat_abs z ≤ 900000000) (λ (node : OsmNode). node.place.lat) (λ node h. omega (arith, ints, h.place.south, h.place.north)) nodes all in
+    let east = all_of IsFileNode (λ z. nat_abs z ≤ 1800000000) (λ (node : OsmNode). node.place.lon) (λ node h. omega (arith, ints, h.place.west, h.place.east)) nodes all in
+    rw (first, second, ids_again place (pos 0) ids zero_small short, coordinates_again place 900000000 (pos 0) lats (omega arith) zero_small north, coordinates_again place 1800000000 (pos 0) lons (omega arith) zero_small east, sides_again nodes) refl
 
 -- one stretch that holds them
 pub dense_read : (bytes : List ℕ) (start end place : ℕ) (nodes : List OsmNode) → AllByRecursion IsPart (dense_parts nodes) → part_of bytes start end ≡ message_text (dense_parts nodes) → dense_of bytes (record { start = start; end = end } ∷ []) place ≡ dense_message place nodes
@@ -127,9 +129,9 @@ dense_read bytes start end place nodes good e =
     let parts = dense_parts nodes in
     let content = message_text parts in
     let whole : part_of bytes start end ++ [] ≡ content = append-nil (part_of bytes start end) ∙ e in
-    let run = message_read parts [] content 0 good refl refl in
-    let ids = values_read parts 1 0 content [] good (tt, (tt, (tt, tt))) refl refl in
-    let lats = values_read parts 8 0 content [] good (tt, (tt, (tt, tt))) refl refl in
-    let lons = values_read parts 9 0 content [] good (tt, (tt, (tt, tt))) refl refl in
-    let tags = values_read parts 10 0 content [] good (tt, (tt, (tt, tt))) refl refl in
+    let run = message_read parts content 0 good refl in
+    let ids = values_read parts 1 0 content good (tt, (tt, (tt, tt))) refl in
+    let lats = values_read parts 8 0 content good (tt, (tt, (tt, tt))) refl in
+    let lons = values_read parts 9 0 content good (tt, (tt, (tt, tt))) refl in
+    let tags = values_read parts 10 0 content good (tt, (tt, (tt, tt))) refl in
     rw (whole, run, ids, lats, lons, tags, append-nil (deltas (pos 0) (map (λ node. node.id) nodes)), append-nil (deltas (pos 0) (map (λ node. node.place.lat) nodes)), append-nil (deltas (pos 0) (map (λ node. node.place.lon) nodes))) refl

@@ -1,8 +1,15 @@
 -- The strings of a block, as they come.
 use Rattle.std.proofs.lemmas.Slice.Eq.{bytes_eq-Decides}
+use Rattle.std.proofs.lemmas.Bool.{cases_Bool, ne_eqb, false_from_ne_true}
+use Rattle.std.proofs.lemmas.List.{map_push}
+use Rattle.std.proofs.lemmas.List.Elements.{All-nil, All-cons, All-weaker, filter-append}
+use Rattle.std.proofs.lemmas.List.Folds.{list_any-append, prefix_len-append}
+use Rattle.std.proofs.lemmas.List.Sums.{passes_at_first}
+use Rattle.std.proofs.lemmas.Map.Views.{any-filter_same}
+use Rattle.std.proofs.lemmas.Option.{slice_get-get_or}
 use Rattle.std.proofs.Math.Bool.{or-true}
-use Rattle.std.proofs.Common.{◌≡◌, ◌∙◌, ℕ, ◌+◌, ◌<◌, suc, List, [], ◌∷◌, ◌++◌, length, map, filter, Bool, true, false, not, ◌||◌, cond, refl, sym, ap, arith, append_assoc, append-nil, if◌then◌else◌, Some, slice_get}
-use Rattle.std.specs.List.{list_any, position_or_len, AllByRecursion}
+use Rattle.std.proofs.Common.{◌≡◌, ◌∙◌, ℕ, ◌+◌, ◌<◌, suc, List, [], ◌∷◌, ◌++◌, length, get_or, map, filter, All, inl, inr, Bool, true, false, not, ◌||◌, cond, refl, sym, ap, arith, append_assoc, append-nil, if◌then◌else◌, Some, slice_get}
+use Rattle.std.specs.List.{list_any, position_or_len}
 use Rattle.std.specs.Str.{bytes_eq}
 use denote.Ref.{Bor}
 use Rattle.gh_base.specs.declared.map.OsmWay.{OsmWay}
@@ -22,13 +29,9 @@ place_spelled : (word : List ℕ) (keys : List (Bor (List ℕ))) → position_or
 place_spelled word [] = refl
 place_spelled word (k ∷ keys) = ap (λ n. cond (not (bytes_eq word k.now)) (1 + n) 0) (place_spelled word keys)
 
-map_push : (keys : List (Bor (List ℕ))) (word : Bor (List ℕ)) → map (λ k. k.now) (keys ++ word ∷ []) ≡ map (λ k. k.now) keys ++ word.now ∷ []
-map_push [] word = refl
-map_push (k ∷ keys) word = ap (λ l. k.now ∷ l) (map_push keys word)
-
 inserted_by : (t : Bool) (keys : List (Bor (List ℕ))) (word : Bor (List ℕ)) → map (λ k. k.now) (if t then keys else keys ++ word ∷ []) ≡ (if t then map (λ k. k.now) keys else map (λ k. k.now) keys ++ word.now ∷ [])
 inserted_by true keys word = refl
-inserted_by false keys word = map_push keys word
+inserted_by false keys word = map_push (λ (k : Bor (List ℕ)). k.now) keys word
 
 -- an inserted string, as bytes
 pub spelled_with : (keys : List (Bor (List ℕ))) (word : Bor (List ℕ)) → map (λ k. k.now) (if list_any (λ k. bytes_eq word.now k.now) keys then keys else keys ++ word ∷ []) ≡ with_word (map (λ k. k.now) keys) word.now
@@ -54,26 +57,27 @@ put_place (x ∷ table) word = put_by (bytes_eq word x) (list_any (bytes_eq word
 pub place_with : (keys : List (Bor (List ℕ))) (word : Bor (List ℕ)) → position_or_len (λ k. bytes_eq word.now k.now) keys ≡ index_of (with_word (map (λ k. k.now) keys) word.now) word.now
 place_with keys word = place_spelled word.now keys ∙ sym (put_place (map (λ k. k.now) keys) word.now)
 
-stays_by : (b : Bool) (x : List ℕ) (table more : List (List ℕ)) (word : List ℕ) → bytes_eq word x ≡ b → Has (x ∷ table) word → (Has table word → index_of (table ++ more) word ≡ index_of table word) → index_of ((x ∷ table) ++ more) word ≡ index_of (x ∷ table) word
-stays_by true x table more word e h before = rw e refl
-stays_by false x table more word e h before = rw e (ap (λ n. 1 + n) (before (rw e at h)))
+-- a word that a table has stands where it is said to stand
+pub place_small : (table : List (List ℕ)) (word : List ℕ) → Has table word → index_of table word < length table
+place_small [] word h = absurd (cc)
+place_small (x ∷ table) word h = elim (cases_Bool (bytes_eq word x)) [
+  | inl t ↦ rw t (omega arith)
+  | inr f ↦ let behind = place_small table word (rw f at h) in rw f (omega arith)
+]
 
--- a word that a table has stays where it is
+pub word_at : (table : List (List ℕ)) (word : List ℕ) → Has table word → slice_get table (index_of table word) ≡ Some word
+word_at table word h =
+    let inside = place_small table word h in
+    slice_get-get_or table (index_of table word) [] inside ∙ ap Some (sym (same_word word _ (passes_at_first (bytes_eq word) table [] inside)))
+
+-- and stays there
 pub place_stays : (table more : List (List ℕ)) (word : List ℕ) → Has table word → index_of (table ++ more) word ≡ index_of table word
-place_stays [] more word h = absurd (cc)
-place_stays (x ∷ table) more word h = stays_by (bytes_eq word x) x table more word refl h (place_stays table more word)
-
-has_by : (b : Bool) (x : List ℕ) (table more : List (List ℕ)) (word : List ℕ) → bytes_eq word x ≡ b → Has (x ∷ table) word → (Has table word → Has (table ++ more) word) → Has ((x ∷ table) ++ more) word
-has_by true x table more word e h before = rw e refl
-has_by false x table more word e h before = rw e (before (rw e at h))
-
-pub has_more : (table more : List (List ℕ)) (word : List ℕ) → Has table word → Has (table ++ more) word
-has_more [] more word h = absurd (cc)
-has_more (x ∷ table) more word h = has_by (bytes_eq word x) x table more word refl h (has_more table more word)
+place_stays table more word h =
+    let inside = place_small table word h in
+    rw (prefix_len-append (λ x. not (bytes_eq word x)) table more, ne_eqb (index_of table word) (length table) (λ e. absurd (omega arith))) refl
 
 has_last : (table : List (List ℕ)) (word : List ℕ) → Has (table ++ word ∷ []) word
-has_last [] word = rw (bytes_eq_same word) refl
-has_last (x ∷ table) word = rw (has_last table word) (or-true (bytes_eq word x))
+has_last table word = rw (list_any-append (bytes_eq word) table (word ∷ []), bytes_eq_same word) (or-true (list_any (bytes_eq word) table))
 
 with_by : (b : Bool) (table : List (List ℕ)) (word : List ℕ) → list_any (bytes_eq word) table ≡ b → Has (if b then table else table ++ word ∷ []) word
 with_by true table word e = e
@@ -99,11 +103,6 @@ place_grown table words word h =
     let more = grown_more table words in
     rw more.1 (place_stays table more.0 word h)
 
-pub has_grown : (table words : List (List ℕ)) (word : List ℕ) → Has table word → Has (grown table words) word
-has_grown table words word h =
-    let more = grown_more table words in
-    rw more.1 (has_more table more.0 word h)
-
 -- where the words of a tag stand in the end, which are put in one after the other
 pub key_place : (table words : List (List ℕ)) (key value : List ℕ) → index_of (grown table (key ∷ value ∷ words)) key ≡ index_of (with_word table key) key
 key_place table words key value = place_grown (with_word table key) (value ∷ words) key (has_with table key)
@@ -111,23 +110,12 @@ key_place table words key value = place_grown (with_word table key) (value ∷ w
 pub value_place : (table words : List (List ℕ)) (key value : List ℕ) → index_of (grown table (key ∷ value ∷ words)) value ≡ index_of (with_word (with_word table key) value) value
 value_place table words key value = place_grown (with_word (with_word table key) value) words value (has_with (with_word table key) value)
 
--- words apart from one, and the others among them
-rest_by : (b c : Bool) (u w x : List ℕ) (l : List (List ℕ)) → bytes_eq w x ≡ b → bytes_eq u x ≡ c → bytes_eq u w ≡ false → list_any (bytes_eq u) (filter (λ y. not (bytes_eq w y)) l) ≡ list_any (bytes_eq u) l → list_any (bytes_eq u) (filter (λ y. not (bytes_eq w y)) (x ∷ l)) ≡ list_any (bytes_eq u) (x ∷ l)
-rest_by true true u w x l e f apart h = absurd (let same : w ≡ x = same_word w x e in let other : bytes_eq u w ≡ true = rw same f in cc)
-rest_by true false u w x l e f apart h = rw (e, f) h
-rest_by false c u w x l e f apart h = rw e (ap (λ b. bytes_eq u x || b) h)
+turned : (v w : List ℕ) → bytes_eq v w ≡ false → bytes_eq w v ≡ false
+turned v w apart = false_from_ne_true (bytes_eq w v) (λ t. absurd (let same : w ≡ v = same_word w v t in let other : bytes_eq v w ≡ true = rw same (bytes_eq_same v) in cc))
 
+-- words apart from one, among others
 any_rest : (u w : List ℕ) (l : List (List ℕ)) → bytes_eq u w ≡ false → list_any (bytes_eq u) (filter (λ y. not (bytes_eq w y)) l) ≡ list_any (bytes_eq u) l
-any_rest u w [] apart = refl
-any_rest u w (x ∷ l) apart = rest_by (bytes_eq w x) (bytes_eq u x) u w x l refl refl apart (any_rest u w l apart)
-
-push_by : (b : Bool) (x : List ℕ) (k l m : List (List ℕ)) → k ≡ l ++ m → (if b then x ∷ k else k) ≡ (if b then x ∷ l else l) ++ m
-push_by true x k l m e = ap (λ n. x ∷ n) e
-push_by false x k l m e = e
-
-filter_push : (p : List ℕ → Bool) (l : List (List ℕ)) (w : List ℕ) → filter p (l ++ w ∷ []) ≡ filter p l ++ filter p (w ∷ [])
-filter_push p [] w = refl
-filter_push p (x ∷ l) w = push_by (p x) x _ _ _ (filter_push p l w)
+any_rest u w l apart = any-filter_same (bytes_eq u) (λ y. not (bytes_eq w y)) true (λ y same. rw (← same_word u y same) (rw (turned u w apart) refl)) l
 
 firsts_by : (b c : Bool) (x w : List ℕ) (l : List (List ℕ)) → bytes_eq w x ≡ b → list_any (bytes_eq w) l ≡ c →
     x ∷ filter (λ y. not (bytes_eq x y)) (if c then l else l ++ w ∷ []) ≡ with_word (x ∷ filter (λ y. not (bytes_eq x y)) l) w
@@ -135,16 +123,9 @@ firsts_by true true x w l e f = rw e refl
 firsts_by true false x w l e f =
     let same : w ≡ x = same_word w x e in
     let again : bytes_eq x w ≡ true = rw same (bytes_eq_same x) in
-    rw (e, filter_push (λ y. not (bytes_eq x y)) l w, again, append-nil (filter (λ y. not (bytes_eq x y)) l)) refl
+    rw (e, filter-append (λ y. not (bytes_eq x y)) l (w ∷ []), again, append-nil (filter (λ y. not (bytes_eq x y)) l)) refl
 firsts_by false true x w l e f = rw (e, any_rest w x l e, f) refl
-firsts_by false false x w l e f = rw (e, any_rest w x l e, f, filter_push (λ y. not (bytes_eq x y)) l w, apart x w e) refl
-  where
-    apart : (x w : List ℕ) → bytes_eq w x ≡ false → bytes_eq x w ≡ false
-    apart x w e = turned (bytes_eq x w) refl
-      where
-        turned : (t : Bool) → bytes_eq x w ≡ t → t ≡ false
-        turned true f = absurd (let same : x ≡ w = same_word x w f in let other : bytes_eq w x ≡ true = rw same (bytes_eq_same w) in cc)
-        turned false f = refl
+firsts_by false false x w l e f = rw (e, any_rest w x l e, f, filter-append (λ y. not (bytes_eq x y)) l (w ∷ []), turned w x e) refl
 
 -- one word more
 pub firsts_push : (words : List (List ℕ)) (w : List ℕ) → firsts (words ++ w ∷ []) ≡ with_word (firsts words) w
@@ -159,14 +140,10 @@ has_front : (b : Bool) (u w : List ℕ) (l : List (List ℕ)) → bytes_eq u w �
 has_front true u w l e h = rw e refl
 has_front false u w l e h = rw (e, any_rest u w l e) h
 
-has_fronts : (w : List ℕ) (l words : List (List ℕ)) → AllByRecursion (Has l) words → AllByRecursion (Has (w ∷ filter (λ y. not (bytes_eq w y)) l)) words
-has_fronts w l [] h = tt
-has_fronts w l (u ∷ words) h = (has_front (bytes_eq u w) u w l refl h.0, has_fronts w l words h.1)
-
 -- the first uses have all words
-pub firsts_has : (words : List (List ℕ)) → AllByRecursion (Has (firsts words)) words
-firsts_has [] = tt
-firsts_has (w ∷ words) = (rw (bytes_eq_same w) refl, has_fronts w (firsts words) words (firsts_has words))
+pub firsts_has : (words : List (List ℕ)) → All (Has (firsts words)) words
+firsts_has [] = All-nil (Has [])
+firsts_has (w ∷ words) = All-cons (Has (firsts (w ∷ words))) w words (rw (bytes_eq_same w) refl) (All-weaker (Has (firsts words)) (Has (firsts (w ∷ words))) (λ u h. has_front (bytes_eq u w) u w (firsts words) refl h) words (firsts_has words))
 
 pub all_words_push : (ways : List OsmWay) (way : OsmWay) → all_words (ways ++ way ∷ []) ≡ all_words ways ++ words_of way.tags
 all_words_push [] way = append-nil (words_of way.tags)
@@ -177,35 +154,13 @@ pub table_push : (ways : List OsmWay) (way : OsmWay) → table_of (ways ++ way �
 unfolding table_of
 table_push ways way = ap (λ l. firsts ([] ∷ l)) (all_words_push ways way) ∙ firsts_grown ([] ∷ all_words ways) (words_of way.tags)
 
-at_by : (b : Bool) (x : List ℕ) (table : List (List ℕ)) (word : List ℕ) → bytes_eq word x ≡ b → Has (x ∷ table) word → (Has table word → slice_get table (index_of table word) ≡ Some word) → slice_get (x ∷ table) (index_of (x ∷ table) word) ≡ Some word
-at_by true x table word e h before = rw e (ap Some (sym (same_word word x e)))
-at_by false x table word e h before =
-    let behind : slice_get table (index_of table word) ≡ Some word = before (rw e at h) in
-    let next : 1 + index_of table word ≡ suc (index_of table word) = omega arith in
-    rw (e, next) behind
-
-small_by : (b : Bool) (x : List ℕ) (table : List (List ℕ)) (word : List ℕ) → bytes_eq word x ≡ b → Has (x ∷ table) word → (Has table word → index_of table word < length table) → index_of (x ∷ table) word < length (x ∷ table)
-small_by true x table word e h before = rw e (omega arith)
-small_by false x table word e h before =
-    let behind : index_of table word < length table = before (rw e at h) in
-    rw e (omega arith)
-
--- a word stands where it is said to stand
-pub word_at : (table : List (List ℕ)) (word : List ℕ) → Has table word → slice_get table (index_of table word) ≡ Some word
-word_at [] word h = absurd (cc)
-word_at (x ∷ table) word h = at_by (bytes_eq word x) x table word refl h (word_at table word)
-
-pub place_small : (table : List (List ℕ)) (word : List ℕ) → Has table word → index_of table word < length table
-place_small [] word h = absurd (cc)
-place_small (x ∷ table) word h = small_by (bytes_eq word x) x table word refl h (place_small table word)
-
-strings_push : (table : List (List ℕ)) (word : List ℕ) → strings_text (table ++ word ∷ []) ≡ strings_text table ++ bytes_field 1 word
-strings_push [] word = append-nil (bytes_field 1 word)
-strings_push (x ∷ table) word = ap (λ l. bytes_field 1 x ++ l) (strings_push table word) ∙ sym (append_assoc (bytes_field 1 x) (strings_text table) (bytes_field 1 word))
+pub strings_append : (table more : List (List ℕ)) → strings_text (table ++ more) ≡ strings_text table ++ strings_text more
+strings_append [] more = refl
+strings_append (word ∷ table) more = ap (λ l. bytes_field 1 word ++ l) (strings_append table more) ∙ sym (append_assoc (bytes_field 1 word) (strings_text table) (strings_text more))
 
 new_by : (t : Bool) (table : List (List ℕ)) (word : List ℕ) → true ≡ not t → strings_text (if t then table else table ++ word ∷ []) ≡ strings_text table ++ bytes_field 1 word
 new_by true table word e = absurd (cc)
-new_by false table word e = strings_push table word
+new_by false table word e = strings_append table (word ∷ []) ∙ ap (λ l. strings_text table ++ l) (append-nil (bytes_field 1 word))
 
 -- what `insert_full` leaves
 abbrev pub inserted : List (Bor (List ℕ)) → Bor (List ℕ) → List (Bor (List ℕ))

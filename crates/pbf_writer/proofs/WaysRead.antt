@@ -2,7 +2,7 @@
 use Rattle.std.proofs.lemmas.Bool.{eq-eqb}
 use Rattle.std.proofs.lemmas.Int.{ints, to_z-of_z, fits_signed_from_abs}
 use Rattle.std.proofs.lemmas.List.{length-map}
-use Rattle.std.proofs.Common.{◌≡◌, ◌∙◌, ℕ, ◌+◌, ◌%◌, ◌^◌, ◌<◌, ◌==◌, ℤ, pos, List, [], ◌∷◌, ◌++◌, length, map, take, Some, None, Ok, Bool, true, ◌&&◌, refl, sym, arith, append_assoc, append-nil, length-append}
+use Rattle.std.proofs.Common.{◌≡◌, ◌∙◌, ℕ, ◌+◌, ◌%◌, ◌^◌, ◌<◌, ◌==◌, ℤ, pos, List, [], ◌∷◌, ◌++◌, length, map, take, drop, Some, None, Ok, Bool, true, ◌&&◌, refl, sym, arith, append_assoc, append-nil, length-append}
 use Rattle.std.specs.List.{AllByRecursion}
 use Rattle.std.specs.Int.{cast_signed, cast_unsigned, w64}
 use Rattle.gh_base.specs.declared.map.OsmTag.{OsmTag}
@@ -19,7 +19,7 @@ use Rattle.pbf_wire.specs.Groups.{messages_of, message_in, messages_with, messag
 use Rattle.pbf_wire.specs.Parts.{Part, message_text, deltas}
 use Rattle.gh_base.specs.Maps.{IsShort}
 use Rattle.pbf_wire.specs.Writing.{index_of, words_of, way_parts, way_text}
-use Rattle.pbf_writer.proofs.FieldsRead.{IsPart, lead, spots_of, message_read, content_there, start_there}
+use Rattle.pbf_writer.proofs.FieldsRead.{IsPart, lead, spots_of, message_read, behind, content_there}
 use Rattle.pbf_writer.proofs.ListsRead.{values_read, scalar_read}
 use Rattle.pbf_writer.proofs.NodesRead.{ids_again, short_id, zero_small}
 use Rattle.pbf_writer.proofs.Tables.{Has, word_at, place_small}
@@ -28,15 +28,15 @@ use Rattle.pbf_writer.proofs.Tables.{Has, word_at, place_small}
 abbrev pub way_message : ℕ → List (List ℕ) → OsmWay → Way
 way_message place table way = record { place = place; id = Some (cast_unsigned w64 way.id); keys = map (λ tag. index_of table tag.key) way.tags; values = map (λ tag. index_of table tag.value) way.tags; refs = deltas (pos 0) way.refs; bad = None }
 
-pub way_read : (bytes front : List ℕ) (at : ℕ) (table : List (List ℕ)) (way : OsmWay) → AllByRecursion IsPart (way_parts table way) → bytes ≡ front ++ way_text table way → at ≡ length front → way_of bytes at ≡ way_message at table way
+pub way_read : (bytes : List ℕ) (at : ℕ) (table : List (List ℕ)) (way : OsmWay) → AllByRecursion IsPart (way_parts table way) → drop at bytes ≡ way_text table way → way_of bytes at ≡ way_message at table way
 unfolding way_of way_text
-way_read bytes front at table way good e p =
+way_read bytes at table way good e =
     let parts = way_parts table way in
-    let run = message_read parts front bytes at good e p in
+    let run = message_read parts bytes at good e in
     let id = scalar_read parts 1 at None in
-    let keys = values_read parts 2 at bytes front good (tt, (tt, (tt, (tt, tt)))) e p in
-    let values = values_read parts 3 at bytes front good (tt, (tt, (tt, (tt, tt)))) e p in
-    let refs = values_read parts 8 at bytes front good (tt, (tt, (tt, (tt, tt)))) e p in
+    let keys = values_read parts 2 at bytes good (tt, (tt, (tt, (tt, tt)))) e in
+    let values = values_read parts 3 at bytes good (tt, (tt, (tt, (tt, tt)))) e in
+    let refs = values_read parts 8 at bytes good (tt, (tt, (tt, (tt, tt)))) e in
     rw (run, id, keys, values, refs, append-nil (map (λ tag. index_of table tag.key) way.tags), append-nil (map (λ tag. index_of table tag.value) way.tags), append-nil (deltas (pos 0) way.refs)) refl
 
 tags_again : (place : ℕ) (table : List (List ℕ)) (tags : List OsmTag) → length table < 2 ^ 32 → AllByRecursion (Has table) (words_of tags) → tags_of place table (map (λ tag. index_of table tag.key) tags) (map (λ tag. index_of table tag.value) tags) ≡ Ok tags
@@ -63,29 +63,23 @@ abbrev pub messages_at : ℕ → List (List ℕ) → List OsmWay → List Messag
 messages_at at table [] = []
 messages_at at table (way ∷ ways) = message.Way (way_message (at + length (lead 3 (way_text table way))) table way) ∷ messages_at (at + length (bytes_field 3 (way_text table way))) table ways
 
--- a way whose parts fit
-abbrev pub HasParts : List (List ℕ) → OsmWay → Type 0
-HasParts table way = AllByRecursion IsPart (way_parts table way)
-
-pub ways_read : (ways : List OsmWay) (table : List (List ℕ)) (pieces : List Piece) (first : Bool) (at : ℕ) (bytes front : List ℕ) → AllByRecursion (HasParts table) ways → bytes ≡ front ++ message_text (map (λ way. Part.Bytes 3 (way_text table way)) ways) → at ≡ length front →
-    messages_of bytes pieces first (spots_of at (map (λ way. Part.Bytes 3 (way_text table way)) ways)) ≡ record { messages = messages_at at table ways; bad = None }
-unfolding message_in
-ways_read [] table pieces first at bytes front good e p = refl
-ways_read (way ∷ ways) table pieces first at bytes front good e p =
-    let text = way_text table way in
-    let tail = message_text (map (λ way. Part.Bytes 3 (way_text table way)) ways) in
-    let field = bytes_field 3 text in
-    let here : way_of (take (at + length field) bytes) (at + length (lead 3 text)) ≡ way_message (at + length (lead 3 text)) table way =
-    way_read (take (at + length field) bytes) (front ++ lead 3 text) (at + length (lead 3 text)) table way good.0 (content_there front text tail bytes 3 at e p) (start_there front text 3 at p) in
-    let next : at + length field ≡ length (front ++ field) = rw p (sym (length-append front field)) in
-    let more = ways_read ways table pieces (first && true) (at + length field) bytes (front ++ field) good.1 (e ∙ sym (append_assoc front field tail)) next in
-    rw (here, more) refl
-
 -- ways that can be written with a table
 pub record IsReadable (table : List (List ℕ)) (way : OsmWay) : Type 0 where
+  pub parts : AllByRecursion IsPart (way_parts table way)
   pub has : AllByRecursion (Has table) (words_of way.tags)
   pub id : IsShort way.id
   pub refs : AllByRecursion IsShort way.refs
+
+pub ways_read : (ways : List OsmWay) (table : List (List ℕ)) (pieces : List Piece) (first : Bool) (at : ℕ) (bytes : List ℕ) → AllByRecursion (IsReadable table) ways → drop at bytes ≡ message_text (map (λ way. Part.Bytes 3 (way_text table way)) ways) →
+    messages_of bytes pieces first (spots_of at (map (λ way. Part.Bytes 3 (way_text table way)) ways)) ≡ record { messages = messages_at at table ways; bad = None }
+unfolding message_in
+ways_read [] table pieces first at bytes good e = refl
+ways_read (way ∷ ways) table pieces first at bytes good e =
+    let text = way_text table way in
+    let tail = message_text (map (λ way. Part.Bytes 3 (way_text table way)) ways) in
+    let here = way_read (take (at + length (bytes_field 3 text)) bytes) (at + length (lead 3 text)) table way good.0.parts (content_there bytes text tail 3 at e) in
+    let more = ways_read ways table pieces (first && true) (at + length (bytes_field 3 text)) bytes good.1 (behind bytes (bytes_field 3 text) tail at e) in
+    rw (here, more) refl
 
 pub ways_again : (ways : List OsmWay) (table : List (List ℕ)) (scale : Scale) (s : GroupSoFar) (at : ℕ) → length table < 2 ^ 32 → AllByRecursion (IsReadable table) ways →
     messages_with table scale s (messages_at at table ways) ≡ Ok (record { map = record { nodes = s.map.nodes; ways = s.map.ways ++ ways }; dense = s.dense })

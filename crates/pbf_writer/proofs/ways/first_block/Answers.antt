@@ -1,7 +1,6 @@
-use Rattle.std.proofs.Common.{◌+◌, ◌<◌, ◌≤◌, [], length, take, arith}
-use Rattle.pbf_wire.specs.Writing.{ways_block}
+use Rattle.std.proofs.Common.{◌<◌, [], length, take, arith}
 use Rattle.pbf_writer.proofs.Ends.{first_end, later_end, too_long, no_more}
-use Rattle.pbf_writer.proofs.Grown.{one_way, next_way, next_long, was_added, was_refused}
+use Rattle.pbf_writer.proofs.Grown.{one_way, next_take, was_added, was_refused}
 use Rattle.pbf_writer.proofs.ways.first_block.Goals as goal
 
 pub ways-init : goal.ways-init
@@ -16,11 +15,10 @@ pub ways-preserved : goal.ways-preserved
 ways-preserved c =
     let tried = was_added c.in_ok-added.added (take c.ways.count c.args.ways.now) c.index-ways-count.result c.try_add.new.self c.if-not-added.false (c.in_ok-added.ensures (take c.ways.count c.args.ways.now) c.ways.invariant.block) in
     let inside : c.ways.count < length c.args.ways.now = omega arith in
-    let same = next_long c.args.ways.now c.ways.count c.index-ways-count.result inside c.index-ways-count.is in
-    let short : length (ways_block (take (c.ways.count + 1) c.args.ways.now)) ≤ 16777216 = rw (← same) tried.1 in
+    let more = rw (next_take c.args.ways.now c.ways.count c.index-ways-count.result inside c.index-ways-count.is) at tried in
     record {
-      block = next_way c.args.ways.now c.ways.count c.index-ways-count.result c.try_add.new.self inside c.index-ways-count.is tried.0;
-      ends = later_end c.args.ways.now c.ways.count c.ways.invariant.ends (omega arith) inside short;
+      block = more.0;
+      ends = later_end c.args.ways.now c.ways.count c.ways.invariant.ends (omega arith) inside more.1;
       some = omega arith;
       few = omega arith;
     }
@@ -29,8 +27,7 @@ pub returns-then-not-added-clause-count : goal.returns-then-not-added-clause-cou
 returns-then-not-added-clause-count c =
     let tried = was_refused c.in_ok-added.added (take c.ways.count c.args.ways.now) c.index-ways-count.result c.try_add.new.self c.if-not-added.true (c.in_ok-added.ensures (take c.ways.count c.args.ways.now) c.ways.invariant.block) in
     let inside : c.ways.count < length c.args.ways.now = omega arith in
-    let same = next_long c.args.ways.now c.ways.count c.index-ways-count.result inside c.index-ways-count.is in
-    let long : 16777216 < length (ways_block (take (c.ways.count + 1) c.args.ways.now)) = rw (← same) tried.1 in
+    let long = rw (next_take c.args.ways.now c.ways.count c.index-ways-count.result inside c.index-ways-count.is) at tried.1 in
     too_long c.args.ways.now c.ways.count c.ways.invariant.ends long
 
 pub returns-clause-count : goal.returns-clause-count
