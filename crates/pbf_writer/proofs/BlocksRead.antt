@@ -1,6 +1,6 @@
 -- Blocks that are written are read again.
 use Rattle.std.proofs.lemmas.Bool.{eq-eqb}
-use Rattle.std.proofs.lemmas.Str.{utf8_valid_len-IsUtf8, IsUtf8-nil}
+use Rattle.std.proofs.lemmas.Str.{utf8_valid_len-IsUtf8}
 use Rattle.std.proofs.Common.{◌≡◌, ◌∙◌, ℕ, ◌+◌, ◌^◌, ◌<◌, List, [], ◌∷◌, ◌++◌, length, map, take, drop, All, IsUtf8, Some, None, Ok, true, refl, arith, append-nil}
 use Rattle.std.specs.List.{AllByRecursion}
 use Rattle.std.specs.Str.Lossy.{utf8_valid_len}
@@ -12,7 +12,7 @@ use Rattle.pbf_wire.specs.declared.fields.Piece.{Piece}
 use Rattle.pbf_wire.specs.declared.messages.Message.{Message}
 use Rattle.pbf_wire.specs.declared.messages.Message.TheVariants as message
 use Rattle.pbf_wire.specs.Put.{bytes_field}
-use Rattle.pbf_wire.specs.Pieces.{part_of, pieces_of}
+use Rattle.pbf_wire.specs.Pieces.{pieces_of}
 use Rattle.pbf_wire.specs.Groups.{group_of, group_with, message_in, message_with}
 use Rattle.pbf_wire.specs.Blocks.{block_of, block_with, texts_in, text_in}
 use Rattle.pbf_wire.specs.Parts.{Part, message_text}
@@ -74,17 +74,12 @@ nodes_added : (table : List (List ℕ)) (m : OsmMap) (nodes : List OsmNode) → 
 unfolding group_with message_with
 nodes_added table m nodes all place = rw (dense_again place nodes all) refl
 
--- what fits of a block of nodes
-pub record FitNodes (nodes : List OsmNode) : Type 0 where
-  pub parts : AllByRecursion IsPart (dense_parts nodes)
-  pub small : length (message_text (dense_parts nodes)) < 2 ^ 64
-  pub fields : AllByRecursion IsPart (block_parts ([] ∷ []) (Part.Bytes 2 (message_text (dense_parts nodes)) ∷ []))
-
-pub nodes_block_read : (file : List ℕ) (m : OsmMap) (piece : Piece) (nodes : List OsmNode) → FitNodes nodes → All IsFileNode nodes → drop piece.start (take piece.end file) ≡ nodes_block nodes → block_with file m piece ≡ Ok (record { nodes = m.nodes ++ nodes; ways = m.ways })
+pub nodes_block_read : (file : List ℕ) (m : OsmMap) (piece : Piece) (nodes : List OsmNode) → AllByRecursion IsPart (dense_parts nodes) → FitBlock ([] ∷ []) (Part.Bytes 2 (message_text (dense_parts nodes)) ∷ []) → All IsFileNode nodes → length (message_text (dense_parts nodes)) < 2 ^ 64 →
+    drop piece.start (take piece.end file) ≡ nodes_block nodes → block_with file m piece ≡ Ok (record { nodes = m.nodes ++ nodes; ways = m.ways })
 unfolding nodes_block
-nodes_block_read file m piece nodes fit all e =
+nodes_block_read file m piece nodes parts fit all small e =
     let content = message_text (dense_parts nodes) in
-    block_read file m _ piece ([] ∷ []) (Part.Bytes 2 content ∷ []) (λ at. message.Dense (dense_message (at + length (lead 2 content)) nodes) ∷ []) (record { fields = fit.fields; words = ((omega arith, omega arith, omega arith), tt); texts = (IsUtf8-nil, tt) }) e (nodes_group nodes fit.parts fit.small) (λ at. nodes_added ([] ∷ []) m nodes all (at + length (lead 2 content)))
+    block_read file m _ piece ([] ∷ []) (Part.Bytes 2 content ∷ []) (λ at. message.Dense (dense_message (at + length (lead 2 content)) nodes) ∷ []) fit e (nodes_group nodes parts small) (λ at. nodes_added ([] ∷ []) m nodes all (at + length (lead 2 content)))
 
 -- a block of ways
 ways_group : (table : List (List ℕ)) (ways : List OsmWay) → AllByRecursion (IsReadable table) ways → AllByRecursion IsPart (map (λ way. Part.Bytes 3 (way_text table way)) ways) → (bytes : List ℕ) (at : ℕ) → drop at bytes ≡ message_text (map (λ way. Part.Bytes 3 (way_text table way)) ways) →
@@ -99,14 +94,8 @@ ways_added : (table : List (List ℕ)) (m : OsmMap) (ways : List OsmWay) → len
 unfolding group_with
 ways_added table m ways few good at = rw (ways_again ways table plain_scale (record { map = m; dense = [] }) at few good, append-nil m.nodes) refl
 
--- what fits of a block of ways
-pub record FitWays (table : List (List ℕ)) (ways : List OsmWay) : Type 0 where
-  pub readable : AllByRecursion (IsReadable table) ways
-  pub parts : AllByRecursion IsPart (map (λ way. Part.Bytes 3 (way_text table way)) ways)
-  pub few : length table < 2 ^ 32
-  pub block : FitBlock table (map (λ way. Part.Bytes 3 (way_text table way)) ways)
-
-pub ways_block_read : (file : List ℕ) (m : OsmMap) (piece : Piece) (ways : List OsmWay) → FitWays (table_of ways) ways → drop piece.start (take piece.end file) ≡ ways_block ways → block_with file m piece ≡ Ok (record { nodes = m.nodes; ways = m.ways ++ ways })
+pub ways_block_read : (file : List ℕ) (m : OsmMap) (piece : Piece) (ways : List OsmWay) → length (table_of ways) < 2 ^ 32 → AllByRecursion (IsReadable (table_of ways)) ways → AllByRecursion IsPart (map (λ way. Part.Bytes 3 (way_text (table_of ways) way)) ways) → FitBlock (table_of ways) (map (λ way. Part.Bytes 3 (way_text (table_of ways) way)) ways) →
+    drop piece.start (take piece.end file) ≡ ways_block ways → block_with file m piece ≡ Ok (record { nodes = m.nodes; ways = m.ways ++ ways })
 unfolding ways_block
-ways_block_read file m piece ways fit e =
-    block_read file m _ piece (table_of ways) (map (λ way. Part.Bytes 3 (way_text (table_of ways) way)) ways) (λ at. messages_at at (table_of ways) ways) fit.block e (ways_group (table_of ways) ways fit.readable fit.parts) (ways_added (table_of ways) m ways fit.few fit.readable)
+ways_block_read file m piece ways few good parts fit e =
+    block_read file m _ piece (table_of ways) (map (λ way. Part.Bytes 3 (way_text (table_of ways) way)) ways) (λ at. messages_at at (table_of ways) ways) fit e (ways_group (table_of ways) ways good parts) (ways_added (table_of ways) m ways few good)

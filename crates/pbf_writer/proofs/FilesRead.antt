@@ -11,13 +11,13 @@ use Rattle.pbf_wire.specs.declared.messages.BlobHeader.{BlobHeader}
 use Rattle.pbf_wire.specs.Put.{bytes_field}
 use Rattle.pbf_wire.specs.Pieces.{part_of}
 use Rattle.pbf_wire.specs.Blocks.{block_with}
-use Rattle.pbf_wire.specs.Headers.{header_block, features_in}
+use Rattle.pbf_wire.specs.Headers.{header_block}
 use Rattle.pbf_wire.specs.Blobs.{header_length, header_at, content_at, blob_with}
 use Rattle.pbf_wire.specs.Files.{blobs_from}
 use Rattle.pbf_wire.specs.Parts.{Part, part_text}
 use Rattle.pbf_wire.specs.Writing.{header_text, blob_text, entry_text, features_text}
 use Rattle.pbf_writer.proofs.Counts.{field_most, header_most}
-use Rattle.pbf_writer.proofs.FieldsRead.{lead, spots_of, message_read, behind, room_of, text_there, content_there, bytes_some}
+use Rattle.pbf_writer.proofs.FieldsRead.{lead, message_read, behind, room_of, text_there, content_there, bytes_some}
 
 -- the parts of an entry
 abbrev pub header_of : List ℕ → List ℕ → List ℕ

@@ -1,9 +1,9 @@
 -- The blocks of ways that can be written fit.
-use Rattle.std.proofs.lemmas.Bool.Decides.{nat_tests}
+use Rattle.std.proofs.lemmas.Bool.{cond_both, leb-true, ltb-false, or_parts}
 use Rattle.std.proofs.lemmas.Int.{ints, fits_signed_from_abs}
 use Rattle.std.proofs.Math.Facts.{Fits-of_z, Fits-lt-pow}
 use Rattle.std.proofs.lemmas.Str.{IsUtf8-nil}
-use Rattle.std.proofs.Common.{◌≡◌, ℕ, ◌+◌, ◌^◌, ◌<◌, ◌≤◌, ◌==◌, ◌||◌, zero, suc, ℤ, pos, List, [], ◌∷◌, ◌++◌, length, map, filter, take, drop, IsUtf8, Ok, Bool, true, false, ltb, nat_le, nat_lt, refl, arith, append-nil, length-append, if◌then◌else◌}
+use Rattle.std.proofs.Common.{◌≡◌, ℕ, ◌+◌, ◌^◌, ◌<◌, ◌≤◌, ◌==◌, ◌||◌, zero, suc, ℤ, pos, List, [], ◌∷◌, ◌++◌, length, map, take, IsUtf8, Ok, true, false, nat_le, nat_lt, arith, append-nil, length-append}
 use Rattle.std.proofs.lemmas.List.Elements.{All-nil, All-cons, All-head, All-tail, All-append, All-filter, All-take, All-weaker, recursion_from_All}
 use Rattle.std.specs.List.{All, AllByRecursion}
 use Rattle.std.specs.Int.{cast_unsigned, w64}
@@ -13,9 +13,9 @@ use Rattle.gh_base.specs.declared.map.OsmWay.{OsmWay}
 use Rattle.gh_base.specs.declared.map.OsmMap.{OsmMap}
 use Rattle.pbf_wire.specs.Files.{reads}
 use Rattle.pbf_wire.specs.Put.{bytes_field}
-use Rattle.pbf_wire.specs.Parts.{Part, part_text, message_text, deltas}
+use Rattle.pbf_wire.specs.Parts.{Part, message_text, deltas}
 use Rattle.gh_base.specs.Maps.{IsShort, IsFileNode, IsTextTag}
-use Rattle.pbf_wire.specs.Writing.{IsWritableWay, IsWritable, fits, firsts, words_of, all_words, table_of, index_of, way_text, strings_text, block_text, ways_block, is_end, end_from, ways_count, cut, pbf_text}
+use Rattle.pbf_wire.specs.Writing.{IsWritableWay, IsWritable, fits, firsts, words_of, all_words, table_of, index_of, way_text, strings_text, block_text, ways_block, is_end, end_from, ways_count, pbf_text}
 use Rattle.pbf_writer.proofs.FieldsRead.{IsPart, bytes_some}
 use Rattle.pbf_writer.proofs.NodesRead.{IsSmall, small_short, zero_small}
 use Rattle.pbf_writer.proofs.WaysRead.{IsReadable}
@@ -112,53 +112,33 @@ ways_read nodes ways small h =
     let strings_least = bytes_some 1 strings in
     let group_least = bytes_some 2 group in
     let count : length (table_of ways) ≤ length strings = bytes_count 1 (λ (word : List ℕ). word) (table_of ways) in
+    let readable = ways_fit (table_of ways) ways (omega arith) (table_has ways) (omega arith) h in
+    let parts = bytes_parts 3 (way_text (table_of ways)) ways (omega arith) (omega arith) (omega arith) in
     record {
       small = small;
-      adds = λ file done piece there. ways_block_read file (record { nodes = nodes; ways = done }) piece ways (record {
-        readable = ways_fit (table_of ways) ways (omega arith) (table_has ways) (omega arith) h;
-        parts = bytes_parts 3 (way_text (table_of ways)) ways (omega arith) (omega arith) (omega arith);
-        few = omega arith;
-        block = record {
-          fields = ((omega arith, omega arith, omega arith), ((omega arith, omega arith, omega arith), tt));
-          words = bytes_parts 1 (λ (word : List ℕ). word) (table_of ways) (omega arith) (omega arith) (omega arith);
-          texts = table_text ways h;
-        };
+      adds = λ file done piece there. ways_block_read file (record { nodes = nodes; ways = done }) piece ways (omega arith) readable parts (record {
+        fields = ((omega arith, omega arith, omega arith), ((omega arith, omega arith, omega arith), tt));
+        words = bytes_parts 1 (λ (word : List ℕ). word) (table_of ways) (omega arith) (omega arith) (omega arith);
+        texts = table_text ways h;
       }) there;
     }
 
-last_false : (a b c : Bool) → (a || b || c) ≡ false → c ≡ false
-last_false true b c e = absurd (cc)
-last_false false true c e = absurd (cc)
-last_false false false c e = e
+-- what holds before an end, and at one more where none is, holds at the end
+end_holds : (P : ℕ → Type 0) (ways : List OsmWay) → ((n : ℕ) → is_end ways n ≡ false → P (n + 1)) → (most n : ℕ) → P n → P (end_from most ways n)
+end_holds P ways more zero n here = here
+end_holds P ways more (suc most) n here = cond_both (is_end ways n) n (end_from most ways (n + 1)) P (λ t. here) (λ f. end_holds P ways more most (n + 1) (more n f))
 
-end_by : (t : Bool) (most : ℕ) (ways : List OsmWay) (n : ℕ) → is_end ways n ≡ t → length (ways_block (take n ways)) ≤ 33554432 → (length (ways_block (take (n + 1) ways)) ≤ 33554432 → length (ways_block (take (end_from most ways (n + 1)) ways)) ≤ 33554432) → length (ways_block (take (if t then n else end_from most ways (n + 1)) ways)) ≤ 33554432
-end_by true most ways n e small later = small
-end_by false most ways n e small later =
-    let test : ltb 16777216 (length (ways_block (take (n + 1) ways))) ≡ false = last_false (n == 8000) (nat_le (length ways) n) (nat_lt 16777216 (length (ways_block (take (n + 1) ways)))) e in
-    later (grind (arith, nat_tests))
-
-end_small : (most : ℕ) (ways : List OsmWay) (n : ℕ) → length (ways_block (take n ways)) ≤ 33554432 → length (ways_block (take (end_from most ways n) ways)) ≤ 33554432
-end_small zero ways n small = small
-end_small (suc most) ways n small = end_by (is_end ways n) most ways n refl small (end_small most ways (n + 1))
+ways_some : (ways : List OsmWay) → 0 < ways_count ways
+unfolding ways_count
+ways_some ways = end_holds (λ n. 0 < n) ways (λ n f. omega arith) (length ways) 1 (omega arith)
 
 count_small : (way : OsmWay) (ways : List OsmWay) → fits way ≡ true → length (ways_block (take (ways_count (way ∷ ways)) (way ∷ ways))) ≤ 33554432
 unfolding ways_count
-count_small way ways fit =
-    let one : length (ways_block (way ∷ [])) ≤ 33554432 = grind (arith, nat_tests) in
-    end_small (length (way ∷ ways)) (way ∷ ways) 1 one
-
-ways_some : (ways : List OsmWay) → 0 < length ways → 0 < ways_count ways
-unfolding ways_count
-ways_some ways h = from_one (length ways) ways 1 (omega arith)
+count_small way ways fit = end_holds (λ n. length (ways_block (take n (way ∷ ways))) ≤ 33554432) (way ∷ ways) (λ n f. short n f) (length (way ∷ ways)) 1 (leb-true (length (ways_block (way ∷ []))) 33554432 fit)
   where
-    from_one : (most : ℕ) (ways : List OsmWay) (n : ℕ) → 0 < n → 0 < end_from most ways n
-    from_one zero ways n some = some
-    from_one (suc most) ways n some = by_test (is_end ways n) (from_one most ways (n + 1) (omega arith))
-      where
-        by_test : (t : Bool) → 0 < end_from most ways (n + 1) → 0 < (if t then n else end_from most ways (n + 1))
-        by_test true later = some
-        by_test false later = later
+    short : (n : ℕ) → is_end (way ∷ ways) n ≡ false → length (ways_block (take (n + 1) (way ∷ ways))) ≤ 33554432
+    short n f = omega (arith, ltb-false 16777216 (length (ways_block (take (n + 1) (way ∷ ways)))) (or_parts (n == 8000 || nat_le (length (way ∷ ways)) n) (nat_lt 16777216 (length (ways_block (take (n + 1) (way ∷ ways))))) f).1)
 
 -- the law
 pub maps_again : (m : OsmMap) → IsWritable m → reads (pbf_text m) ≡ Ok m
-maps_again m h = map_again IsFileNode IsWritableWay m nodes_are_read (λ way ways all. let n = ways_count (way ∷ ways) in (ways_some (way ∷ ways) (omega arith), ways_read m.nodes (take n (way ∷ ways)) (count_small way ways (All-head IsWritableWay way ways all).fits) (All-take IsWritableWay n (way ∷ ways) all))) h.nodes h.ways
+maps_again m h = map_again IsFileNode IsWritableWay m nodes_are_read (λ way ways all. let n = ways_count (way ∷ ways) in (ways_some (way ∷ ways), ways_read m.nodes (take n (way ∷ ways)) (count_small way ways (All-head IsWritableWay way ways all).fits) (All-take IsWritableWay n (way ∷ ways) all))) h.nodes h.ways

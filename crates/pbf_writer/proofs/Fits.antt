@@ -1,13 +1,14 @@
 -- The parts of a map that can be written fit.
 use Rattle.std.proofs.lemmas.Int.{ints}
+use Rattle.std.proofs.lemmas.Str.{IsUtf8-nil}
 use Rattle.std.proofs.lemmas.List.{length-map}
 use Rattle.std.proofs.lemmas.List.Elements.{All-take}
-use Rattle.std.proofs.Common.{◌≡◌, ℕ, ◌+◌, ◌*◌, ◌^◌, ◌<◌, ◌≤◌, min, zero, suc, ℤ, pos, negsuc, ◌-ℤ◌, nat_abs, List, [], ◌∷◌, ◌++◌, length, map, take, All, arith, length-append, length-take}
+use Rattle.std.proofs.Common.{ℕ, ◌+◌, ◌*◌, ◌^◌, ◌<◌, ◌≤◌, ℤ, pos, negsuc, ◌-ℤ◌, nat_abs, List, [], ◌∷◌, ◌++◌, length, map, take, All, arith, length-append, length-take}
 use Rattle.std.specs.List.{AllByRecursion}
 use Rattle.gh_base.specs.declared.map.OsmNode.{OsmNode}
 use Rattle.pbf_wire.specs.Put.{varint_bytes, bytes_field}
 use Rattle.pbf_wire.specs.Parts.{Part, part_text, message_text, varints_text, sint, deltas}
-use Rattle.gh_base.specs.Maps.{IsShort, IsFileNode}
+use Rattle.gh_base.specs.Maps.{IsFileNode}
 use Rattle.pbf_wire.specs.Writing.{dense_parts, block_text, nodes_block}
 use Rattle.pbf_writer.proofs.Counts.{varint_most, field_most}
 use Rattle.pbf_writer.proofs.FieldsRead.{IsPart, bytes_some}
@@ -64,11 +65,11 @@ nodes_read nodes few all =
     let table = field_most 1 (bytes_field 1 [] ++ []) in
     record {
       small = omega (arith, length-append {A = ℕ});
-      adds = λ file done piece there. nodes_block_read file (record { nodes = done; ways = [] }) piece nodes (record {
-        parts = (ids.0, (lats.0, (lons.0, tt)));
-        small = omega arith;
+      adds = λ file done piece there. nodes_block_read file (record { nodes = done; ways = [] }) piece nodes (ids.0, (lats.0, (lons.0, tt))) (record {
         fields = ((omega arith, omega arith, omega (arith, length-append {A = ℕ})), ((omega arith, omega arith, omega (arith, length-append {A = ℕ})), tt));
-      }) all there;
+        words = ((omega arith, omega arith, omega arith), tt);
+        texts = (IsUtf8-nil, tt);
+      }) all (omega arith) there;
     }
 
 -- the first nodes of a map are a block that is read

@@ -1,13 +1,13 @@
 -- The blocks of a map are read again, one behind another.
 use Rattle.std.proofs.lemmas.List.Elements.{All-drop}
-use Rattle.std.proofs.Common.{◌≡◌, ◌∙◌, ℕ, ◌+◌, ◌<◌, ◌≤◌, zero, suc, List, [], ◌∷◌, ◌++◌, length, map, take, drop, codes, All, Ok, Bool, true, false, refl, sym, ap, arith, append_assoc, append-nil, length-append, length-drop, take-append-drop, if◌then◌else◌}
+use Rattle.std.proofs.Common.{◌≡◌, ◌∙◌, ℕ, ◌<◌, ◌≤◌, zero, suc, List, [], ◌∷◌, ◌++◌, length, map, take, drop, codes, All, Ok, true, false, refl, sym, ap, arith, append_assoc, append-nil, length-append, length-drop, take-append-drop}
 use Rattle.gh_base.specs.declared.map.OsmNode.{OsmNode}
 use Rattle.gh_base.specs.declared.map.OsmWay.{OsmWay}
 use Rattle.gh_base.specs.declared.map.OsmMap.{OsmMap}
 use Rattle.pbf_wire.specs.declared.fields.Piece.{Piece}
 use Rattle.pbf_wire.specs.Blocks.{block_with}
 use Rattle.pbf_wire.specs.Files.{reads}
-use Rattle.pbf_wire.specs.Writing.{entry_text, features_text, blocks_text, nodes_block, ways_block, cut, nodes_parts, ways_parts, ways_count, end_from, is_end, pbf_text}
+use Rattle.pbf_wire.specs.Writing.{entry_text, features_text, blocks_text, nodes_block, ways_block, cut, nodes_parts, ways_parts, ways_count, pbf_text}
 use Rattle.pbf_writer.proofs.Counts.{field_most}
 use Rattle.pbf_writer.proofs.FilesRead.{StandsAt, GoesOn, entry_end, rest_there, data_read, features_read, entry_step, end_read}
 

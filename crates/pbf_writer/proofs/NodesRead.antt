@@ -1,11 +1,10 @@
 -- Dense nodes that are written are read again.
-use Rattle.std.proofs.lemmas.Bool.Decides.{nat_tests}
-use Rattle.std.proofs.lemmas.Bool.{eq-eqb}
+use Rattle.std.proofs.lemmas.Bool.{eq-eqb, le-leb, lt-ltb}
 use Rattle.std.proofs.lemmas.Int.{ints, fits_signed_from_abs, wrapping_sub_is, int_wrap_fits}
 use Rattle.std.proofs.lemmas.List.{length-map}
 use Rattle.std.proofs.lemmas.List.Elements.{All-map, All-weaker, recursion_from_All}
 use Rattle.std.proofs.Math.IntN.{+ℤ_comm, -ℤ-+ℤ_cancel}
-use Rattle.std.proofs.Common.{◌≡◌, ◌∙◌, ℕ, ◌+◌, ◌*◌, ◌/◌, ◌%◌, ◌^◌, ◌<◌, ◌≤◌, ◌==◌, suc, ℤ, pos, negsuc, ◌+ℤ◌, ◌-ℤ◌, ◌*ℤ◌, nat_abs, List, [], ◌∷◌, ◌++◌, length, map, Some, None, Ok, true, leb, refl, sym, ap, arith, append-nil}
+use Rattle.std.proofs.Common.{◌≡◌, ◌∙◌, ℕ, ◌+◌, ◌*◌, ◌/◌, ◌%◌, ◌^◌, ◌<◌, ◌≤◌, ◌==◌, suc, ℤ, pos, negsuc, ◌+ℤ◌, ◌-ℤ◌, ◌*ℤ◌, nat_abs, List, [], ◌∷◌, ◌++◌, length, map, Some, None, Ok, true, refl, sym, ap, arith, append-nil}
 use Rattle.std.specs.List.{All, AllByRecursion}
 use Rattle.std.specs.Int.{int_div_euclid, int_wrapping_sub, w64}
 use Rattle.gh_base.specs.declared.map.OsmNode.{OsmNode}
@@ -48,7 +47,7 @@ delta_again last z small_last small =
     rw (delta_is last z small_last small, zigzag_again (z -ℤ last)) (+ℤ_comm last (z -ℤ last) ∙ -ℤ-+ℤ_cancel z last)
 
 pub short_id : (z : ℤ) → IsShort z → is_id z ≡ true
-short_id z h = grind (arith, nat_tests)
+short_id z h = lt-ltb (nat_abs z) 1000000000000000000 h
 
 pub small_short : (z : ℤ) → IsShort z → IsSmall z
 small_short z h = omega arith
@@ -57,14 +56,11 @@ pub ids_again : (place : ℕ) (last : ℤ) (ids : List ℤ) → IsSmall last →
 ids_again place last [] small h = refl
 ids_again place last (id ∷ ids) small h = rw (delta_again last id small (small_short id h.0), short_id id h.0, ids_again place id ids (small_short id h.0) h.1) refl
 
-hundred : (n : ℕ) → 100 * n / 100 ≡ n
-hundred n = omega arith
-
 -- in units of a hundredth of 1e-7 degree and back
 unit_again : (z : ℤ) → int_div_euclid (pos 100 *ℤ z +ℤ pos 0) (pos 100) ≡ z
 unit_again (pos n) =
-    let same : 100 * n + 0 ≡ 100 * n = omega arith in
-    rw (same, hundred n) refl
+    let same : (100 * n + 0) / 100 ≡ n = omega arith in
+    rw same refl
 unit_again (negsuc n) =
     let same : pos 100 *ℤ negsuc n +ℤ pos 0 ≡ negsuc (100 * n + 99) = omega (arith, ints) in
     let part : (100 * n + 99) / 100 ≡ n = omega arith in
@@ -72,9 +68,7 @@ unit_again (negsuc n) =
 
 coordinate_again : (z : ℤ) (most : ℕ) → nat_abs z ≤ most → coordinate_of (record { granularity = pos 100; offset = pos 0; most = most }) z ≡ Some z
 unfolding coordinate_of
-coordinate_again z most h =
-    let test : leb (nat_abs z) most ≡ true = grind (arith, nat_tests) in
-    rw (unit_again z, test) refl
+coordinate_again z most h = rw (unit_again z, le-leb (nat_abs z) most h) refl
 
 coordinates_again : (place most : ℕ) (last : ℤ) (zs : List ℤ) → most < 2 ^ 62 → IsSmall last → AllByRecursion (λ z. nat_abs z ≤ most) zs → coordinates_from place (record { granularity = pos 100; offset = pos 0; most = most }) last (deltas last zs) ≡ Ok zs
 coordinates_again place most last [] low small h = refl

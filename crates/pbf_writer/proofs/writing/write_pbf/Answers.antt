@@ -1,7 +1,7 @@
-use Rattle.std.proofs.Common.{◌∙◌, ◌++◌, ap, codes, map}
+use Rattle.std.proofs.Common.{◌∙◌, codes, map}
 use Rattle.std.proofs.KnownBytes.{Appends-trans}
 use Rattle.std.proofs.lemmas.Result.{on_ok_weaker, on_err_weaker}
-use Rattle.pbf_wire.specs.Writing.{entry_text, features_text, blocks_text, nodes_block, ways_block, nodes_parts, ways_parts, pbf_text}
+use Rattle.pbf_wire.specs.Writing.{entry_text, features_text, blocks_text, nodes_block, nodes_parts, pbf_text}
 use Rattle.pbf_writer.proofs.Sent.{on_err, front_wide, front_behind}
 use Rattle.pbf_writer.proofs.writing.write_pbf.Goals as goal
 
