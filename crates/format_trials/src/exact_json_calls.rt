@@ -1,22 +1,9 @@
-//! Numbers, first faults, and a value printed.
+//! Numbers, bytes that are no text, and a value printed. Other faults are rows of examples/tables.
 ghost use Rattle.std.specs.Prelude.{◌<◌, ◌^◌, length};
 
 use exact_json::{Json, JsonFault, JsonKind, print, read};
 use std::alloc::Global;
 use std::process::Abort;
-use std::test::Fail;
-
-fn fault(rt: &impl Abort, alloc: Global, text: &str, at: u32, wanted: JsonKind)
-    requires { length text.now < 2 ^ 32 }
-{
-    match read(alloc, text.as_bytes()) {
-        Err(JsonFault::At { byte, kind }) => {
-            assert!(rt; byte == at);
-            assert!(rt; kind == wanted);
-        }
-        _ => panic!(rt; "no fault"),
-    }
-}
 
 fn number(rt: &impl Abort, alloc: Global, text: &str, digits: u64, places: u8)
     requires { length text.now < 2 ^ 32 }
@@ -42,43 +29,6 @@ fn numbers_keep_their_places(rt: HostRuntime) {
     number(&rt, alloc, "2e3", 2000, 0);
     number(&rt, alloc, "-0", 0, 0);
     number(&rt, alloc, "0e9999", 0, 0);
-}
-
-#[test]
-fn numbers_that_are_too_long_are_refused_at_their_first_byte(rt: HostRuntime) {
-    let alloc = rt.alloc();
-    fault(&rt, alloc, "1e18", 0, JsonKind::TooLong);
-    fault(&rt, alloc, " [1000000000000000000]", 2, JsonKind::TooLong);
-    fault(&rt, alloc, "0e-9999", 0, JsonKind::TooLong);
-    fault(&rt, alloc, " 1e00001", 1, JsonKind::TooLong);
-    fault(&rt, alloc, "01", 1, JsonKind::After);
-    fault(&rt, alloc, "[01]", 2, JsonKind::Byte);
-}
-
-#[test]
-fn the_first_fault_is_told_by_its_byte(rt: HostRuntime) {
-    let alloc = rt.alloc();
-    fault(&rt, alloc, "", 0, JsonKind::End);
-    fault(&rt, alloc, "nul", 3, JsonKind::End);
-    fault(&rt, alloc, "[1 2]", 3, JsonKind::Byte);
-    fault(&rt, alloc, "{\"a\":1,\"a\":2}", 7, JsonKind::TwiceKey);
-    fault(&rt, alloc, "\"a\n\"", 2, JsonKind::Byte);
-    fault(
-        &rt,
-        alloc,
-        "[[[[[[[[[[[[[[[[[[[[[[[[[[[[[[[[[[[[[[[[[[[[[[[[[[[[[[[[[[[[[[[[[",
-        64,
-        JsonKind::Depth,
-    );
-}
-
-#[test]
-fn half_a_surrogate_pair_is_refused_at_its_backslash(rt: HostRuntime) {
-    let alloc = rt.alloc();
-    fault(&rt, alloc, "\"\\ud800\"", 1, JsonKind::Escape);
-    fault(&rt, alloc, "\"\\udc00\"", 1, JsonKind::Escape);
-    fault(&rt, alloc, "\"\\ud800\\u0041\"", 1, JsonKind::Escape);
-    fault(&rt, alloc, "\"\\ud800\\u12\"", 11, JsonKind::Byte);
 }
 
 #[test]

@@ -1,132 +1,80 @@
-//! Five nodes in a row, and three of which the last stands alone.
-use crate::sound::are_roads;
-use alt_search::{Adjacency, FlatPotential, ListPotential};
-use gh_base::{DirEdge, EdgeId, Hop, Hops, LabelList, NoMemory, NodeId, Potential};
-use label_certificate::{NodeSet, Refuted, check_none, check_walk, labels_of};
-use std::alloc::{AllocError, Global};
+//! What is no evidence: labels and sets over two nodes that an edge of 1 ms joins, and one that stands alone.
+ghost use Rattle.std.specs.Prelude.{IsTrue};
+ghost use Rattle.gh_base.specs.Networks.{LeadsToNodes};
+ghost use Rattle.alt_search.specs.Rows.{network_in};
+
+use alt_search::{Adjacency, lead_to_rows};
+use gh_base::{DirEdge, EdgeId, Hop, Hops, LabelList, NoMemory, NodeId};
+use label_certificate::{NodeSet, Refuted, check_none, check_walk};
+use std::alloc::Global;
 use std::test::Fail;
 
-fn by(edge: u32, reverse: bool) -> DirEdge {
-    DirEdge {
-        edge: EdgeId(edge),
-        reverse,
-    }
-}
+const ALONG: DirEdge = DirEdge {
+    edge: EdgeId(0),
+    reverse: false,
+};
 
-fn hop(to: u32, edge: u32, reverse: bool) -> Hop {
-    Hop {
-        to: NodeId(to),
-        by: by(edge, reverse),
-        weight: Some(66717),
-    }
-}
+/// The hop over the edge, from node 0 to node 1.
+const REFUTES: Refuted = Refuted::Violated {
+    edge: ALONG,
+    tail: NodeId(0),
+    head: NodeId(1),
+    weight: 1,
+};
 
-fn row(alloc: Global, hops: &[Hop]) -> Result<Hops, AllocError> {
-    Ok(Hops::from_vec(hops.to_vec(alloc)?))
-}
-
-fn five_in_a_row(alloc: Global) -> Result<Vec<Hops>, AllocError> {
-    let rows = vec![in alloc;
-        row(alloc, &[hop(1, 0, false)])?,
-        row(alloc, &[hop(2, 1, false), hop(0, 0, true)])?,
-        row(alloc, &[hop(3, 2, false), hop(1, 1, true)])?,
-        row(alloc, &[hop(4, 3, false), hop(2, 2, true)])?,
-        row(alloc, &[hop(3, 3, true)])?,
-    ]?;
+/// The hops of each node.
+fn roads(alloc: Global) -> Result<Vec<Hops>, NoMemory> {
+    let mut first = Hops::new(alloc);
+    first.push(Hop {
+        to: NodeId(1),
+        by: ALONG,
+        weight: Some(1),
+    })?;
+    let mut rows = Vec::new(alloc);
+    rows.push(first)?;
+    rows.push(Hops::new(alloc))?;
+    rows.push(Hops::new(alloc))?;
     Ok(rows)
 }
 
-fn pair_and_one(alloc: Global) -> Result<Vec<Hops>, AllocError> {
-    let rows = vec![in alloc;
-        row(alloc, &[hop(1, 0, false)])?,
-        row(alloc, &[hop(0, 0, true)])?,
-        row(alloc, &[])?,
-    ]?;
-    Ok(rows)
+/// Whether each hop leads to one of the rows, as far as a view of them asks for it.
+fn are_roads(rows: &[Hops]) -> bool
+    ensures { IsTrue result → LeadsToNodes (network_in rows.now) }
+{
+    lead_to_rows(rows)
 }
 
-/// The verdict on labels of the walk from node 2 to node 4, or `None` where the lists don't fit.
-fn verdict(rows: &[Hops], labels: &LabelList) -> Option<Result<(), Refuted>> {
-    if rows.len() != 5 || labels.len() != 5 || !are_roads(rows) {
-        return None;
-    }
-    let mut view = Adjacency::new(rows);
-    Some(check_walk(&mut view, labels, NodeId(2), NodeId(4), 133434))
-}
-
-/// The labels of the walk from node 2 to node 4.
-fn labels_by<P: Potential>(
+/// The verdict on a label of node 1, as evidence that no walk there from node 0 weighs less. None where it wasn't asked for.
+fn verdict(
     alloc: Global,
     rows: &[Hops],
-    potential: &P,
-) -> Result<Option<LabelList>, NoMemory> {
-    if rows.len() != 5 || !are_roads(rows) {
+    label: u64,
+    weight: u64,
+) -> Result<Option<Result<(), Refuted>>, NoMemory> {
+    let mut labels = LabelList::new(alloc);
+    labels.push(Some(0))?;
+    labels.push(Some(label))?;
+    labels.push(None)?;
+    if rows.len() != 3 || labels.len() != 3 || !are_roads(rows) {
         return Ok(None);
     }
     let mut view = Adjacency::new(rows);
-    let labels = labels_of(alloc, &mut view, potential, NodeId(2), NodeId(4), 133434)?;
-    Ok(Some(labels))
-}
-
-fn listed(alloc: Global, labels: &[Option<u64>]) -> Result<LabelList, AllocError> {
-    Ok(LabelList::from_vec(labels.to_vec(alloc)?))
+    Ok(Some(check_walk(&mut view, &labels, NodeId(0), NodeId(1), weight)))
 }
 
 #[test]
-fn labels_that_are_made_are_accepted(rt: HostRuntime) -> Result<(), Fail> {
-    let rows = five_in_a_row(rt.alloc())?;
-    let bounds = [
-        Some(266868),
-        Some(200151),
-        Some(133434),
-        Some(66717),
-        Some(0),
-    ];
-    let landmark = ListPotential { bounds: &bounds };
-    let Some(labels) = labels_by(rt.alloc(), &rows, &landmark)? else {
-        assert!(rt; false);
-        return Ok(());
-    };
-    let expected = [Some(0), Some(0), Some(0), Some(66717), Some(133434)];
-    assert!(rt; labels.as_slice() == expected.as_slice());
-    assert_eq!(rt; verdict(&rows, &labels), Some(Ok(())));
-    let Some(labels) = labels_by(rt.alloc(), &rows, &FlatPotential)? else {
-        assert!(rt; false);
-        return Ok(());
-    };
-    let distances = [
-        Some(133434),
-        Some(66717),
-        Some(0),
-        Some(66717),
-        Some(133434),
-    ];
-    assert!(rt; labels.as_slice() == distances.as_slice());
-    assert_eq!(rt; verdict(&rows, &labels), Some(Ok(())));
+fn labels_are_refused_by_their_ends_and_by_a_hop(rt: HostRuntime) -> Result<(), Fail> {
+    let alloc = rt.alloc();
+    let rows = roads(alloc)?;
+    assert_eq!(rt; verdict(alloc, &rows, 1, 1)?, Some(Ok(())));
+    assert_eq!(rt; verdict(alloc, &rows, 2, 1)?, Some(Err(Refuted::Ends)));
+    assert_eq!(rt; verdict(alloc, &rows, 2, 2)?, Some(Err(REFUTES)));
     Ok(())
 }
 
 #[test]
-fn labels_that_are_changed_are_refused(rt: HostRuntime) -> Result<(), Fail> {
-    let rows = five_in_a_row(rt.alloc())?;
-    let raised = [Some(0), Some(0), Some(0), Some(66717), Some(133435)];
-    let raised = listed(rt.alloc(), &raised)?;
-    assert_eq!(rt; verdict(&rows, &raised), Some(Err(Refuted::Ends)));
-    let lowered = [Some(0), Some(0), Some(0), Some(66716), Some(133434)];
-    let lowered = listed(rt.alloc(), &lowered)?;
-    let violated = Refuted::Violated {
-        edge: by(3, false),
-        tail: NodeId(3),
-        head: NodeId(4),
-        weight: 66717,
-    };
-    assert_eq!(rt; verdict(&rows, &lowered), Some(Err(violated)));
-    Ok(())
-}
-
-#[test]
-fn a_closed_set_is_accepted_and_an_open_one_refused(rt: HostRuntime) -> Result<(), Fail> {
-    let rows = pair_and_one(rt.alloc())?;
+fn a_set_is_refused_by_a_hop_that_leads_out(rt: HostRuntime) -> Result<(), Fail> {
+    let rows = roads(rt.alloc())?;
     let rows = rows.as_slice();
     assert_eq!(rt; rows.len(), 3);
     let leads = are_roads(rows);
@@ -135,13 +83,7 @@ fn a_closed_set_is_accepted_and_an_open_one_refused(rt: HostRuntime) -> Result<(
     closed.add(NodeId(0));
     let mut view = Adjacency::new(rows);
     let open = check_none(&mut view, &closed, NodeId(0), NodeId(2));
-    let violated = Refuted::Violated {
-        edge: by(0, false),
-        tail: NodeId(0),
-        head: NodeId(1),
-        weight: 66717,
-    };
-    assert_eq!(rt; open, Err(violated));
+    assert_eq!(rt; open, Err(REFUTES));
     closed.add(NodeId(1));
     let mut view = Adjacency::new(rows);
     let shut = check_none(&mut view, &closed, NodeId(0), NodeId(2));

@@ -8,5 +8,3 @@
 mod label_certificate_calls;
 #[cfg(test)]
 mod search_queue_calls;
-#[cfg(test)]
-mod sound;

@@ -97,27 +97,15 @@ fn outcome_at<R: Threads + Sync, G: Gate>(
 }
 
 #[test]
-fn what_fails_outside_is_told_and_nothing_is_written(rt: HostRuntime) -> Result<(), AllocError> {
+fn a_conversion_tells_what_fails_outside_and_writes_nothing(
+    rt: HostRuntime,
+) -> Result<(), AllocError> {
     let map = MAP.as_bytes();
     let to_pbf = Case {
         words: &TO_PBF,
         ..plain_case(map, b"")
     };
     let cases = [
-        (
-            Case {
-                words: &["serve", "--map", "x", "--form", "plain"],
-                ..plain_case(map, b"")
-            },
-            "gh: cannot open the map",
-        ),
-        (
-            Case {
-                script_fails: &FIRST,
-                ..plain_case(map, b"")
-            },
-            "gh: cannot read the script",
-        ),
         (
             Case {
                 map_fails: &FIRST,
@@ -207,20 +195,6 @@ fn each_call_of_a_source_that_fails_is_told(rt: HostRuntime) -> Result<(), Alloc
         assert_eq!(rt; text.as_str(), "gh: cannot read the script");
         assert_eq!(rt; held.len(), 0);
     }
-    Ok(())
-}
-
-#[test]
-fn a_script_of_one_byte_too_many_is_too_large(rt: HostRuntime) -> Result<(), AllocError> {
-    let alloc = rt.alloc();
-    let newlines = vec![in alloc; b'\n'; 16_777_217]?;
-    let case = Case {
-        step: 4096,
-        ..plain_case(MAP.as_bytes(), newlines.as_slice())
-    };
-    let (text, held) = outcome(&rt, rt.alloc(), &case)?;
-    assert_eq!(rt; text.as_str(), "gh: script bytes over 16777216");
-    assert_eq!(rt; held.len(), 0);
     Ok(())
 }
 

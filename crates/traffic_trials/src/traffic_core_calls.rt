@@ -1,8 +1,9 @@
 //! What a state of the roads takes, and when entries are the same.
 use crate::road::road;
-use gh_base::{DirEdge, EdgeId};
+use gh_base::{DirEdge, EdgeId, NoMemory};
+use std::alloc::Global;
 use std::test::Fail;
-use traffic_core::{Entry, RoadState, What};
+use traffic_core::{Entry, Ground, RoadState, What};
 
 fn closed(edge: u32) -> Entry {
     Entry {
@@ -18,15 +19,19 @@ fn closed(edge: u32) -> Entry {
     }
 }
 
+/// Whether a state with room for so many entries takes that an edge is closed.
+fn takes(alloc: Global, ground: &Ground, room: u32, edge: u32) -> Result<bool, NoMemory> {
+    let state = RoadState::with_room(alloc, ground, room)?;
+    Ok(state.can_take(&closed(edge)))
+}
+
 #[test]
 fn a_state_takes_entries_of_its_roads_while_there_is_room(rt: HostRuntime) -> Result<(), Fail> {
     let alloc = rt.alloc();
     let ground = road(alloc)?;
-    let state = RoadState::with_room(alloc, &ground, 1)?;
-    assert!(rt; state.can_take(&closed(0)));
-    assert!(rt; !state.can_take(&closed(1)));
-    let full = RoadState::with_room(alloc, &ground, 0)?;
-    assert!(rt; !full.can_take(&closed(0)));
+    assert_eq!(rt; takes(alloc, &ground, 1, 0), Ok(true));
+    assert_eq!(rt; takes(alloc, &ground, 1, 1), Ok(false));
+    assert_eq!(rt; takes(alloc, &ground, 0, 0), Ok(false));
     Ok(())
 }
 
