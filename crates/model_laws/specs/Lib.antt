@@ -1,2 +1,6 @@
 pub mod Conditions
 pub mod Actions
+pub mod Spelling
+pub mod Numerals
+pub mod Grammar
+pub mod Acting

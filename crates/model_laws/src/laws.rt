@@ -1,6 +1,8 @@
 //! The laws. Each function does nothing: what it ensures is the law.
+ghost use Rattle.model_laws.specs.Acting.{ActionsAreRead};
 ghost use Rattle.model_laws.specs.Actions.{ActionsAreSo};
 ghost use Rattle.model_laws.specs.Conditions.{NamesAreSo, WordsAreSo, ConditionsAreSo, ConditionFaultsStandSo};
+ghost use Rattle.model_laws.specs.Grammar.{ConditionsAreRead};
 
 /// Each name of a truth value, and each name of a number with each operator.
 pub fn names_are_so()
@@ -25,4 +27,14 @@ pub fn condition_faults_stand_so()
 /// Decimals and expressions, in the units of what they act on.
 pub fn actions_are_so()
     ensures { ActionsAreSo }
+{}
+
+/// What is written of a condition is read as that condition, with any spaces between its tokens.
+pub fn conditions_are_read()
+    ensures { ConditionsAreRead }
+{}
+
+/// What is written of an action is read as that action, in its units.
+pub fn actions_are_read()
+    ensures { ActionsAreRead }
 {}
