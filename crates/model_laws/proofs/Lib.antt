@@ -6,3 +6,4 @@ pub mod Plain
 pub mod Cuts
 pub mod Grammar
 pub mod Acting
+pub mod Wholes

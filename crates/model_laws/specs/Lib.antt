@@ -4,3 +4,4 @@ pub mod Spelling
 pub mod Numerals
 pub mod Grammar
 pub mod Acting
+pub mod Wholes

@@ -3,6 +3,7 @@ ghost use Rattle.model_laws.specs.Acting.{ActionsAreRead};
 ghost use Rattle.model_laws.specs.Actions.{ActionsAreSo};
 ghost use Rattle.model_laws.specs.Conditions.{NamesAreSo, WordsAreSo, ConditionsAreSo, ConditionFaultsStandSo};
 ghost use Rattle.model_laws.specs.Grammar.{ConditionsAreRead};
+ghost use Rattle.model_laws.specs.Wholes.{ModelsAreRead};
 
 /// Each name of a truth value, and each name of a number with each operator.
 pub fn names_are_so()
@@ -37,4 +38,9 @@ pub fn conditions_are_read()
 /// What is written of an action is read as that action, in its units.
 pub fn actions_are_read()
     ensures { ActionsAreRead }
+{}
+
+/// An object that writes a model is read as that model, in whatever order its members stand.
+pub fn models_are_read()
+    ensures { ModelsAreRead }
 {}

@@ -8,5 +8,5 @@ mod laws;
 
 pub use laws::{
     actions_are_read, actions_are_so, condition_faults_stand_so, conditions_are_read,
-    conditions_are_so, names_are_so, words_are_so,
+    conditions_are_so, models_are_read, names_are_so, words_are_so,
 };
