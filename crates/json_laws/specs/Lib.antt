@@ -2,3 +2,4 @@ pub mod Escaping
 pub mod Numbering
 pub mod Spacing
 pub mod Samples
+pub mod Grammar

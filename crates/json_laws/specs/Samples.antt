@@ -25,6 +25,11 @@ samples =
     (codes "1.5e3", number false 1500 0) ∷
     (codes "1.5E+1", number false 15 0) ∷
     (codes "-25e-1", number true 25 1) ∷
+    (codes "2E3", number false 2000 0) ∷
+    (codes "1e0005", number false 100000 0) ∷
+    (codes "-0.5", number true 5 1) ∷
+    (codes "999999999999999999", number false 999999999999999999 0) ∷
+    (codes "0.000000000000000001", number false 1 18) ∷
     (codes "\"\"", j.Str []) ∷
     (codes "\"a b\"", j.Str (codes "a b")) ∷
     (codes "\"\\b\"", j.Str (8 ∷ [])) ∷
@@ -61,6 +66,7 @@ refused =
     (codes "1e-19", (0, TooLong)) ∷
     (codes "1e00001", (0, TooLong)) ∷
     (codes "{\"a\":1,\"a\":2}", (7, TwiceKey)) ∷
+    (codes "{\"a\":1,\"b\":2,\"a\":3}", (13, TwiceKey)) ∷
     (replicate 65 91, (64, Depth)) ∷
     (codes "1 2", (2, After)) ∷ []
 

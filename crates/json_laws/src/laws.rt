@@ -1,5 +1,6 @@
 //! The laws. Each function does nothing: what it ensures is the law.
 ghost use Rattle.json_laws.specs.Escaping.{NamedEscapesAreRead, UnicodeEscapesAreRead, PairsAreRead};
+ghost use Rattle.json_laws.specs.Grammar.{TextsAreRead};
 ghost use Rattle.json_laws.specs.Numbering.{DecimalsAreExact};
 ghost use Rattle.json_laws.specs.Samples.{TextsAreSo, FaultsStandSo};
 ghost use Rattle.json_laws.specs.Spacing.{SpaceMeansNothing};
@@ -27,6 +28,11 @@ pub fn decimals_are_exact()
 /// White space before a value, behind brackets, colons and commas and before them means nothing.
 pub fn space_means_nothing()
     ensures { SpaceMeansNothing }
+{}
+
+/// Each text of a value reads as that value: numbers in each of their forms, white space wherever it may stand.
+pub fn texts_are_read()
+    ensures { TextsAreRead }
 {}
 
 /// Some whole texts and their values.

@@ -8,5 +8,5 @@ mod laws;
 
 pub use laws::{
     decimals_are_exact, escapes_are_their_characters, faults_stand_so, pairs_are_one_character,
-    space_means_nothing, texts_are_so, unicode_escapes_are_their_numbers,
+    space_means_nothing, texts_are_read, texts_are_so, unicode_escapes_are_their_numbers,
 };
