@@ -7,3 +7,4 @@ pub mod Cuts
 pub mod Grammar
 pub mod Acting
 pub mod Wholes
+pub mod Chains

@@ -1,5 +1,5 @@
 -- Values that write whole models are read as them.
-use Rattle.std.proofs.Common.{◌≡◌, ◌≢◌, ◌∙◌, ℕ, zero, suc, ◌+◌, ◌-◌, ◌*◌, ◌/◌, ◌%◌, ◌^◌, ◌<◌, ◌≤◌, ◌⊎◌, inl, inr, List, [], ◌∷◌, ◌++◌, length, append-nil, append_assoc, Bool, true, false, ◌||◌, ◌&&◌, not, eqb, ltb, leb, Option, Some, None, Ok, codes, refl, ap, sym, subst, arith}
+use Rattle.std.proofs.Common.{◌≡◌, ◌≢◌, ◌∙◌, ℕ, zero, suc, ◌+◌, ◌-◌, ◌*◌, ◌/◌, ◌%◌, ◌^◌, ◌<◌, ◌≤◌, ◌⊎◌, inl, inr, List, [], ◌∷◌, ◌++◌, length, append-nil, append_assoc, Bool, true, false, ◌||◌, ◌&&◌, not, eqb, ltb, leb, Option, Some, None, Ok, Err, codes, refl, ap, sym, subst, arith}
 use Rattle.std.specs.List.{list_all}
 use Rattle.std.specs.Str.{bytes_eq}
 use Rattle.std.proofs.Math.Nat.{mul_assoc, mul-mod_left, mul-div_cancel, eq_of_mul-eq-mul_right}
@@ -7,6 +7,8 @@ use Rattle.std.proofs.lemmas.Bool.Decides.{nat_tests}
 use Rattle.std.proofs.lemmas.Nat.{pow-add}
 use Rattle.std.proofs.lemmas.Slice.Eq.{bytes_eq-Decides}
 use Rattle.gh_base.specs.Decimals.{decimal_of}
+use Rattle.gh_base.specs.declared.kinds.ModelKind.TheVariants.{NoIf}
+use Rattle.gh_base.specs.declared.kinds.Part.TheVariants as part
 use Rattle.exact_json.proofs.Limits.{ten_pow}
 use Rattle.exact_json.specs.Decimals.{DecimalValue}
 use Rattle.exact_json.specs.declared.value.Json.{Json, out-Json, roll-Json, out-roll-Json}
@@ -31,10 +33,10 @@ use Rattle.model_texts.specs.Amounts.{places_of, most_of}
 use Rattle.model_texts.specs.Conditions.{condition_of}
 use Rattle.model_parser.specs.Features.{areas_of, collection_of}
 use Rattle.model_parser.specs.ModelText.{are_keys, is_key, whole_number, whole_text, influence_of, model_of}
-use Rattle.model_parser.specs.Statements.{branch_of, verb_of, scaled, is_amount, action_by, acting, written, statement_of, statements_from, list_of, statements_of}
+use Rattle.model_parser.specs.Statements.{branch_of, verb_of, part_of, scaled, is_amount, action_by, acting, written, statement_of, statements_from, list_of, statements_of}
 use Rattle.model_parser.specs.Values.{object_in, object_of, array_in, array_of, text_in, text_of, number_in, number_of, null_in, is_null, find}
 use Rattle.model_laws.specs.Numerals.{IsDecimal}
-use Rattle.model_laws.specs.Wholes.{IsMember, Asks, branch_key, verb_key, IsExactly, IsConstant, Does, IsStatement, MayStand, goes_on, AreStatements, IsList, IsInfluence, Lacks, Has, IsPart, AreKeys, IsModelOf, ModelsAreRead}
+use Rattle.model_laws.specs.Wholes.{IsMember, Asks, branch_key, verb_key, IsExactly, IsConstant, Does, IsStatement, MayStand, goes_on, goes_on_behind, at_item, IsOrphaned, AreStatements, IsList, IsInfluence, Lacks, Has, IsPart, AreKeys, IsModelOf, OrphansAreRefused, ModelsAreRead}
 use Rattle.model_laws.proofs.Numerals.{decimal_read, within_is}
 
 -- ---- a layer of a value
@@ -166,27 +168,42 @@ module _ (running : Running) (areas : List Area) where
       let reads = acts.reads item in
       rw (n, no_null [], text_is [], is, stands, reads, e) refl
 
-  statement_read : (item : ℕ) (may : Bool) (s : Statement) (v : Json) → MayStand may s.branch → IsStatement running areas s v → statement_of running areas item may v ≡ Ok s
+  statement_is : (item : ℕ) (may : Bool) (s : Statement) (v : Json) (h : IsStatement running areas s v) →
+      statement_of running areas item may v ≡ written running areas item may s.branch (out-Member h.asked).value h.verb (out-Member h.done).value
   unfolding statement_of
-  statement_read item may s v stands h = by h.either
+  statement_is item may s v h = by h.either
     where
-      acts : Acts running h.verb s.action (out-Member h.done).value
-      acts = does_read running h.verb s.action (out-Member h.done).value h.does.1
-
-      one : written running areas item may s.branch (out-Member h.asked).value h.verb (out-Member h.done).value ≡ Ok s
-      one = written_by item may s.branch s.test h.verb s.action (out-Member h.asked).value (out-Member h.done).value stands h.asks.1 acts
-
-      by : (v ≡ j.Object (h.asked ∷ h.done ∷ [])) ⊎ (v ≡ j.Object (h.done ∷ h.asked ∷ [])) → statement_of running areas item may v ≡ Ok s
+      by : (v ≡ j.Object (h.asked ∷ h.done ∷ [])) ⊎ (v ≡ j.Object (h.done ∷ h.asked ∷ [])) →
+          statement_of running areas item may v ≡ written running areas item may s.branch (out-Member h.asked).value h.verb (out-Member h.done).value
       by (inl e) =
           let a = h.asks.0 in
           let d = h.does.0 in
           let k = verb_known h.verb in
-          rw (e, object_is (h.asked ∷ h.done ∷ []), a, d, branch_known s.branch, k.0) one
+          rw (e, object_is (h.asked ∷ h.done ∷ []), a, d, branch_known s.branch, k.0) refl
       by (inr e) =
           let a = h.asks.0 in
           let d = h.does.0 in
           let k = verb_known h.verb in
-          rw (e, object_is (h.done ∷ h.asked ∷ []), a, d, k.1, branch_known s.branch, k.0) one
+          rw (e, object_is (h.done ∷ h.asked ∷ []), a, d, k.1, branch_known s.branch, k.0) refl
+
+  statement_read : (item : ℕ) (may : Bool) (s : Statement) (v : Json) → MayStand may s.branch → IsStatement running areas s v → statement_of running areas item may v ≡ Ok s
+  statement_read item may s v stands h =
+      statement_is item may s v h
+      ∙ written_by item may s.branch s.test h.verb s.action (out-Member h.asked).value (out-Member h.done).value stands h.asks.1 (does_read running h.verb s.action (out-Member h.done).value h.does.1)
+
+  -- an `else_if` or `else` alone
+  orphan_by : (item : ℕ) (b : Branch) (x : Test) (verb : Verb) (a : Action) (asked amount : Json) → (b ≢ If) → Asks areas b x asked → Acts running verb a amount →
+      written running areas item false b asked verb amount ≡ Err (at_item (part_of running) item, NoIf)
+  unfolding written
+  orphan_by item If x verb a asked amount no_if asks acts = absurd (no_if refl)
+  orphan_by item ElseIf x verb a asked amount no_if (text, e, h) acts = let is = acts.is in rw (e, text_is text, is) refl
+  orphan_by item Else x verb a asked amount no_if (e, inl n) acts = let is = acts.is in rw (n, null_is, is) refl
+  orphan_by item Else x verb a asked amount no_if (e, inr n) acts = let is = acts.is in rw (n, no_null [], text_is [], is) refl
+
+  orphan_read : (item : ℕ) (s : Statement) (v : Json) → (s.branch ≢ If) → IsStatement running areas s v → statement_of running areas item false v ≡ Err (at_item (part_of running) item, NoIf)
+  orphan_read item s v no_if h =
+      statement_is item false s v h
+      ∙ orphan_by item s.branch s.test h.verb s.action (out-Member h.asked).value (out-Member h.done).value no_if h.asks.1 (does_read running h.verb s.action (out-Member h.done).value h.does.1)
 
   same_goes : (b : Branch) → goes_on b ≡ models.goes_on b
   same_goes If = refl
@@ -201,6 +218,28 @@ module _ (running : Running) (areas : List Area) where
       let more = subst (λ (b : Bool). AreStatements running areas b ss vs) (same_goes s.branch) h.1.1 in
       rw (statement_read item may s v h.0 h.1.0)
       (statements_read (item + 1) (models.goes_on s.branch) (found ++ s ∷ []) ss vs more ∙ ap (λ (all : List Statement). Ok all) (append_assoc found (s ∷ []) ss))
+
+  -- an orphan behind statements
+  orphans_read : (item : ℕ) (may : Bool) (found ss : List Statement) (front : List Json) (s : Statement) (v : Json) (behind : List Json) → AreStatements running areas may ss front → goes_on_behind may ss ≡ false →
+      (s.branch ≢ If) → IsStatement running areas s v → statements_from running areas item may found (front ++ v ∷ behind) ≡ Err (at_item (part_of running) (item + length front), NoIf)
+  orphans_read item may found [] [] s v behind h closed no_if is =
+      let e : item + 0 ≡ item = omega arith in
+      rw (closed, orphan_read item s v no_if is, e) refl
+  orphans_read item may found [] (w ∷ front) s v behind h closed no_if is = absurd h
+  orphans_read item may found (x ∷ ss) [] s v behind h closed no_if is = absurd h
+  orphans_read item may found (x ∷ ss) (w ∷ front) s v behind h closed no_if is =
+      let more = subst (λ (b : Bool). AreStatements running areas b ss front) (same_goes x.branch) h.1.1 in
+      let closed_too = subst (λ (b : Bool). goes_on_behind b ss ≡ false) (same_goes x.branch) closed in
+      let e : item + 1 + length front ≡ item + suc (length front) = omega arith in
+      rw (statement_read item may x w h.0 h.1.0, ← e) (orphans_read (item + 1) (models.goes_on x.branch) (found ++ x ∷ []) ss front s v behind more closed_too no_if is)
+
+  orphaned_read : (item : ℕ) (v : Json) → IsOrphaned running areas item v → list_of running areas v ≡ Err (at_item (part_of running) item, NoIf)
+  unfolding list_of
+  orphaned_read item v o =
+      let e = o.array_is in
+      let n = o.item_is in
+      let few : leb (length (o.front ++ o.value ∷ o.behind)) 100 ≡ true = let short = o.few in grind (arith, nat_tests) in
+      rw (e, n, array_is (o.front ++ o.value ∷ o.behind), few) (orphans_read 1 false [] o.before o.front o.orphan o.value o.behind o.are o.closed o.no_if o.is)
 
   list_read : (ss : List Statement) (v : Json) → IsList running areas ss v → list_of running areas v ≡ Ok ss
   unfolding list_of
@@ -258,3 +297,26 @@ models_read model ms h =
       statements_part Priority model.areas (codes "priority") model.priority ms h.priority,
       influence_part model.distance_influence ms h.influence,
     ) refl
+
+-- what is found of a member that is there
+has_found : (key : List ℕ) (Is : Json → Type 0) (ms : List Member) (h : Has key Is ms) → find key ms ≡ Some (out-Member h.member).value
+has_found key Is ms h = ap (find key) h.members_are ∙ found_behind key h.before h.member h.behind h.none_before h.is.0
+
+speed_orphan : (areas : List Area) (ms : List Member) (item : ℕ) → AreKeys ms → IsPart (codes "areas") (areas ≡ []) (λ v. collection_of v ≡ Ok areas) ms → Has (codes "speed") (IsOrphaned Speed areas item) ms →
+    model_of (j.Object ms) ≡ Err (at_item part.Speed item, NoIf)
+unfolding model_of
+speed_orphan areas ms item keys a h =
+    rw (object_is ms, keys_known ms keys, areas_part areas ms a, has_found (codes "speed") (IsOrphaned Speed areas item) ms h, orphaned_read Speed areas item (out-Member h.member).value h.is.1) refl
+
+priority_orphan : (areas : List Area) (speed : List Statement) (ms : List Member) (item : ℕ) → AreKeys ms → IsPart (codes "areas") (areas ≡ []) (λ v. collection_of v ≡ Ok areas) ms →
+    IsPart (codes "speed") (speed ≡ []) (IsList Speed areas speed) ms → Has (codes "priority") (IsOrphaned Priority areas item) ms → model_of (j.Object ms) ≡ Err (at_item part.Priority item, NoIf)
+unfolding model_of
+priority_orphan areas speed ms item keys a s h =
+    rw (object_is ms, keys_known ms keys, areas_part areas ms a, statements_part Speed areas (codes "speed") speed ms s, has_found (codes "priority") (IsOrphaned Priority areas item) ms h,
+    orphaned_read Priority areas item (out-Member h.member).value h.is.1) refl
+
+pub orphans_refused : OrphansAreRefused
+orphans_refused = record {
+  speed = λ areas ms item keys a h. speed_orphan areas ms item keys a h;
+  priority = λ areas speed ms item keys a s h. priority_orphan areas speed ms item keys a s h;
+}

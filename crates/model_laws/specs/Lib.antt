@@ -5,3 +5,4 @@ pub mod Numerals
 pub mod Grammar
 pub mod Acting
 pub mod Wholes
+pub mod Chains

@@ -1,6 +1,10 @@
 -- Which JSON values write statements and whole models (GraphHopper documentation, "Custom models"; the exact form is this
 -- project's own).
-use Rattle.std.specs.Prelude.{◌≡◌, ◌≢◌, ℕ, ◌*◌, ◌^◌, ◌≤◌, ◌⊎◌, Bool, true, false, List, [], ◌∷◌, ◌++◌, length, Option, Some, None, Ok, codes}
+use Rattle.std.specs.Prelude.{◌≡◌, ◌≢◌, ℕ, ◌+◌, ◌*◌, ◌^◌, ◌≤◌, ◌⊎◌, Bool, true, false, List, [], ◌∷◌, ◌++◌, length, Option, Some, None, Ok, Err, codes}
+use Rattle.gh_base.specs.declared.kinds.ModelKind.TheVariants.{NoIf}
+use Rattle.gh_base.specs.declared.kinds.Part.{Part}
+use Rattle.gh_base.specs.declared.kinds.Part.TheVariants as part
+use Rattle.gh_base.specs.declared.kinds.Place3.{Place3}
 use Rattle.exact_json.specs.Decimals.{DecimalValue}
 use Rattle.exact_json.specs.declared.value.Json.{Json}
 use Rattle.exact_json.specs.declared.value.Json.TheVariants as j
@@ -130,6 +134,38 @@ pub record IsModelOf (model : CustomModel) (ms : List Member) : Type 0 where
   pub speed : IsPart (codes "speed") (model.speed ≡ []) (IsList running.Speed model.areas model.speed) ms
   pub priority : IsPart (codes "priority") (model.priority ≡ []) (IsList running.Priority model.areas model.priority) ms
   pub influence : IsPart (codes "distance_influence") (model.distance_influence ≡ None) (λ v. (n : ℕ) × (model.distance_influence ≡ Some n) × IsInfluence n v) ms
+
+-- whether an `else_if` or `else` may stand directly behind these
+abbrev pub goes_on_behind : Bool → List Statement → Bool
+goes_on_behind behind [] = behind
+goes_on_behind behind (s ∷ ss) = goes_on_behind (goes_on s.branch) ss
+
+-- an array whose item of this number, counted from 1, is the first `else_if` or `else` that stands behind neither an `if` nor an `else_if`
+pub record IsOrphaned (running : Running) (areas : List Area) (item : ℕ) (v : Json) : Type 0 where
+  pub front : List Json
+  pub before : List Statement
+  pub value : Json
+  pub orphan : Statement
+  pub behind : List Json
+  pub array_is : v ≡ j.Array (front ++ value ∷ behind)
+  pub few : length (front ++ value ∷ behind) ≤ 100
+  pub are : AreStatements running areas false before front
+  pub closed : goes_on_behind false before ≡ false
+  pub no_if : orphan.branch ≢ If
+  pub is : IsStatement running areas orphan value
+  pub item_is : item ≡ 1 + length front
+
+-- a fault of an item itself
+abbrev pub at_item : Part → ℕ → Place3
+at_item part item = record { part = part; item = item; byte = 0 }
+
+-- an object in whose list of speeds, or else in whose list of priorities, such an item stands is refused with it
+pub record OrphansAreRefused : Type 0 where
+  pub speed : (areas : List Area) (ms : List Member) (item : ℕ) → AreKeys ms → IsPart (codes "areas") (areas ≡ []) (λ v. collection_of v ≡ Ok areas) ms → Has (codes "speed") (IsOrphaned running.Speed areas item) ms →
+      model_of (j.Object ms) ≡ Err (at_item part.Speed item, NoIf)
+  pub priority : (areas : List Area) (speed : List Statement) (ms : List Member) (item : ℕ) → AreKeys ms → IsPart (codes "areas") (areas ≡ []) (λ v. collection_of v ≡ Ok areas) ms →
+      IsPart (codes "speed") (speed ≡ []) (IsList running.Speed areas speed) ms → Has (codes "priority") (IsOrphaned running.Priority areas item) ms →
+      model_of (j.Object ms) ≡ Err (at_item part.Priority item, NoIf)
 
 -- an object that writes a model is read as that model
 abbrev pub ModelsAreRead : Type 0

@@ -1,9 +1,10 @@
 //! The laws. Each function does nothing: what it ensures is the law.
 ghost use Rattle.model_laws.specs.Acting.{ActionsAreRead};
 ghost use Rattle.model_laws.specs.Actions.{ActionsAreSo};
+ghost use Rattle.model_laws.specs.Chains.{ChainsAreRun};
 ghost use Rattle.model_laws.specs.Conditions.{NamesAreSo, WordsAreSo, ConditionsAreSo, ConditionFaultsStandSo};
 ghost use Rattle.model_laws.specs.Grammar.{ConditionsAreRead};
-ghost use Rattle.model_laws.specs.Wholes.{ModelsAreRead};
+ghost use Rattle.model_laws.specs.Wholes.{ModelsAreRead, OrphansAreRefused};
 
 /// Each name of a truth value, and each name of a number with each operator.
 pub fn names_are_so()
@@ -43,4 +44,14 @@ pub fn actions_are_read()
 /// An object that writes a model is read as that model, in whatever order its members stand.
 pub fn models_are_read()
     ensures { ModelsAreRead }
+{}
+
+/// An `else_if` or `else` that stands behind neither an `if` nor an `else_if` is refused, by its part and item.
+pub fn orphans_are_refused()
+    ensures { OrphansAreRefused }
+{}
+
+/// Of an `if` and what follows it up to the next the first true statement acts, and each action in its units.
+pub fn chains_are_run()
+    ensures { ChainsAreRun }
 {}
