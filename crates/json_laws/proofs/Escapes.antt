@@ -1,6 +1,5 @@
 -- Escapes are read as their characters.
-use Rattle.std.proofs.Common.{◌≡◌, ◌∙◌, ℕ, suc, zero, ◌+◌, ◌-◌, ◌*◌, ◌<◌, ◌≤◌, ◌⊎◌, inl, inr, List, [], ◌∷◌, ◌++◌, length, get_or, Bool, true, false, eqb, ltb, leb, Ok, Contains, refl, ap, sym, subst, arith}
-use Rattle.std.specs.Char.{digit_value}
+use Rattle.std.proofs.Common.{◌≡◌, ℕ, suc, zero, ◌+◌, ◌*◌, ◌<◌, ◌≤◌, ◌⊎◌, inl, inr, List, [], ◌∷◌, ◌++◌, length, get_or, true, false, ltb, leb, Ok, refl, ap, subst, arith}
 use Rattle.std.proofs.lemmas.Bool.Decides.{nat_tests}
 use Rattle.exact_json.specs.Texts.{escape, unicode, four, low, hex}
 use Rattle.json_laws.specs.Escaping.{Named, named_escapes, NamedEscapesAreRead, IsHex, AreFour}

@@ -1,9 +1,9 @@
 -- Each text of a value reads as that value.
-use Rattle.std.proofs.Common.{◌≡◌, ◌∙◌, sym, ap, subst, ℕ, zero, suc, ◌+◌, ◌<◌, ◌≤◌, Bool, true, false, cond, ◌&&◌, ◌||◌, not, eqb, ltb, leb, codes, flat_map, List, [], ◌∷◌, ◌++◌, length, Some, Ok, inl, inr, ◌⊎◌, refl, append_assoc, length-append, append-nil, IsUtf8, arith}
+use Rattle.std.proofs.Common.{◌≡◌, ◌∙◌, sym, ap, subst, ℕ, zero, suc, ◌<◌, ◌≤◌, Bool, true, false, eqb, leb, codes, flat_map, List, [], ◌∷◌, ◌++◌, length, Ok, inl, inr, ◌⊎◌, refl, append_assoc, length-append, append-nil, IsUtf8, arith}
 use Rattle.std.specs.Str.{chars}
 use Rattle.std.proofs.lemmas.Bool.Decides.{nat_tests}
 use Rattle.gh_base.specs.declared.kinds.JsonKind.TheVariants.{End}
-use Rattle.exact_json.specs.Again.{AreNew, KeysDiffer}
+use Rattle.exact_json.specs.Again.{AreNew}
 use Rattle.exact_json.specs.Decimals.{DecimalValue}
 use Rattle.exact_json.specs.Parsing.{turns, sees, after}
 use Rattle.exact_json.specs.Printed.{escaped_char, quoted}

@@ -1,5 +1,5 @@
 -- Escapes (RFC 8259, section 7), each with its character.
-use Rattle.std.specs.Prelude.{◌≡◌, ℕ, ◌+◌, ◌-◌, ◌*◌, ◌<◌, ◌≤◌, ◌⊎◌, List, [], ◌∷◌, ◌++◌, Ok, Contains, codes}
+use Rattle.std.specs.Prelude.{◌≡◌, ℕ, ◌+◌, ◌*◌, ◌<◌, ◌≤◌, ◌⊎◌, List, [], ◌∷◌, ◌++◌, Ok, Contains, codes}
 use Rattle.std.specs.Char.{digit_value}
 use Rattle.exact_json.specs.Texts.{escape}
 

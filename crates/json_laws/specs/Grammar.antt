@@ -1,5 +1,5 @@
 -- Which texts a value has (RFC 8259): numbers in each of their forms, and white space wherever it may stand.
-use Rattle.std.specs.Prelude.{◌≡◌, ℕ, zero, suc, ◌<◌, ◌≤◌, ◌⊎◌, Bool, true, false, ◌&&◌, List, [], ◌∷◌, ◌++◌, Some, Ok, nat_le, if◌then◌else◌, codes, IsUtf8}
+use Rattle.std.specs.Prelude.{◌≡◌, ℕ, zero, suc, ◌≤◌, ◌⊎◌, Bool, true, false, ◌&&◌, List, [], ◌∷◌, ◌++◌, Some, Ok, nat_le, if◌then◌else◌, codes, IsUtf8}
 use Rattle.exact_json.specs.Again.{KeysDiffer}
 use Rattle.exact_json.specs.Decimals.{DecimalValue, decimal_of}
 use Rattle.exact_json.specs.Printed.{quoted}

@@ -1,5 +1,5 @@
 -- What a number's text is worth (RFC 8259, section 6).
-use Rattle.std.specs.Prelude.{◌≡◌, ℕ, ◌+◌, ◌*◌, ◌^◌, ◌<◌, Bool, true, false, ◌&&◌, List, [], ◌++◌, length, Some, nat_lt}
+use Rattle.std.specs.Prelude.{◌≡◌, ℕ, ◌+◌, ◌*◌, ◌^◌, Bool, true, false, ◌&&◌, List, ◌++◌, length, Some, nat_lt}
 use Rattle.exact_json.specs.Decimals.{DecimalValue, decimal_of, spelled}
 
 -- digits over ten to the power of places are these digits, of which so many stand behind the point, times ten to the power of the exponent

@@ -1,5 +1,5 @@
 -- Texts and what they are (RFC 8259), and texts that are refused.
-use Rattle.std.specs.Prelude.{◌≡◌, ℕ, Bool, true, false, List, [], ◌∷◌, ◌++◌, Ok, Err, map, replicate, codes}
+use Rattle.std.specs.Prelude.{◌≡◌, ℕ, Bool, true, false, List, [], ◌∷◌, Ok, Err, map, replicate, codes}
 use Rattle.gh_base.specs.declared.kinds.JsonKind.{JsonKind}
 use Rattle.gh_base.specs.declared.kinds.JsonKind.TheVariants.{End, Byte, Utf8, Escape, TooLong, TwiceKey, Depth, After}
 use Rattle.exact_json.specs.declared.value.Json.{Json}

@@ -1,5 +1,5 @@
 -- White space (RFC 8259, section 2: space, tab, line feed, carriage return) means nothing.
-use Rattle.std.specs.Prelude.{◌≡◌, ℕ, ◌⊎◌, Bool, List, [], ◌∷◌, ◌++◌, Ok, map, codes}
+use Rattle.std.specs.Prelude.{◌≡◌, ℕ, ◌⊎◌, List, [], ◌∷◌, ◌++◌, Ok, map, codes}
 use Rattle.exact_json.specs.declared.value.Json.{Json}
 use Rattle.exact_json.specs.Values.{reads}
 

@@ -1,27 +1,23 @@
 -- Written actions are read.
-use Rattle.std.proofs.Common.{◌≡◌, ◌∙◌, ℕ, zero, suc, ◌+◌, ◌<◌, ◌≤◌, ◌⊎◌, inl, inr, List, [], ◌∷◌, ◌++◌, length, take, Bool, true, false, ◌||◌, ◌&&◌, eqb, ltb, leb, Option, Some, None, Ok, codes, Contains, refl, ap, sym, subst, arith}
+use Rattle.std.proofs.Common.{◌≡◌, ◌∙◌, ℕ, ◌<◌, ◌≤◌, ◌⊎◌, inl, inr, List, [], ◌∷◌, ◌++◌, length, take, Bool, true, false, ◌||◌, eqb, Some, None, Ok, codes, Contains, refl, ap, sym, subst, arith}
 use Rattle.std.specs.Prelude.{replicate}
 use Rattle.std.specs.List.{list_any}
-use Rattle.std.specs.Str.{bytes_eq}
 use Rattle.std.proofs.lemmas.Bool.Decides.{nat_tests}
-use Rattle.gh_base.specs.Decimals.{decimal_of}
 use Rattle.gh_base.specs.declared.kinds.ModelKind.TheVariants.{Number}
 use Rattle.model_eval.specs.declared.conditions.NumberName.{NumberName}
-use Rattle.model_eval.specs.declared.custom_model.Action.{Action}
-use Rattle.model_eval.specs.declared.custom_model.Action.TheVariants as action
 use Rattle.model_eval.specs.declared.custom_model.Running.{Running}
 use Rattle.model_eval.specs.declared.custom_model.Running.TheVariants.{Speed, Priority}
 use Rattle.model_texts.specs.declared.amounts.Verb.{Verb}
 use Rattle.model_texts.specs.declared.amounts.Verb.TheVariants.{Multiply, Limit}
 use Rattle.model_texts.specs.Tokens.{begins_word, token_len, after_space, spelling, next, ahead, sees, expect, finish}
 use Rattle.model_texts.specs.Words.{number_of}
-use Rattle.model_texts.specs.Amounts.{within, places_of, most_of, factor_of}
-use Rattle.model_texts.specs.Actions.{kind_of, name, star, factor, behind_name, scaled, expression, is_expression, scaled_action, plain_action, action_of}
-use Rattle.model_laws.specs.Spelling.{is_letter, is_digit, AllPass, IsSpelled}
+use Rattle.model_texts.specs.Amounts.{places_of, most_of, factor_of}
+use Rattle.model_texts.specs.Actions.{name, star, factor, behind_name, scaled, expression, is_expression, scaled_action, plain_action, action_of}
+use Rattle.model_laws.specs.Spelling.{is_digit, AllPass, IsSpelled}
 use Rattle.model_laws.specs.Numerals.{pointed, IsDecimal}
 use Rattle.model_laws.specs.Grammar.{numbers}
-use Rattle.model_laws.specs.Acting.{IsFactor, IsOrdered, IsMultiple, ActionsAreRead}
-use Rattle.model_laws.proofs.Cuts.{Spaces, nothing_ahead, spelled_read}
+use Rattle.model_laws.specs.Acting.{IsOrdered, IsMultiple, ActionsAreRead}
+use Rattle.model_laws.proofs.Cuts.{nothing_ahead, spelled_read}
 use Rattle.model_laws.proofs.Membership.{AllAre, of_all}
 use Rattle.model_laws.proofs.Numerals.{decimal_read, factor_read, within_is}
 use Rattle.model_laws.proofs.Streams.{AreRead, taken_long}

@@ -1,9 +1,9 @@
 -- Statements run from the front of their list on.
-use Rattle.std.proofs.Common.{◌≡◌, ◌∙◌, ℕ, zero, suc, ◌+◌, ◌-◌, ◌*◌, ◌/◌, ◌<◌, ◌≤◌, Bool, true, false, List, [], ◌∷◌, Option, Some, None, eqb, refl, ap, sym, arith}
+use Rattle.std.proofs.Common.{◌≡◌, ◌∙◌, ℕ, ◌+◌, ◌*◌, ◌/◌, ◌<◌, ◌≤◌, Bool, true, false, List, [], ◌∷◌, refl, ap, sym, arith}
 use Rattle.std.specs.Prelude.{min}
 use Rattle.encoded_values.specs.Values.{Values}
 use Rattle.model_eval.specs.Conditions.{passes, test_step}
-use Rattle.model_eval.specs.Running.{blocks, run_blocks, chosen, act_of, act, run}
+use Rattle.model_eval.specs.Running.{blocks, act, run}
 use Rattle.model_eval.specs.declared.conditions.NumberName.TheVariants as number
 use Rattle.model_eval.specs.declared.conditions.Test.TheVariants as t
 use Rattle.model_eval.specs.declared.conditions.Test.TheOpen.{Test-F}

@@ -1,11 +1,11 @@
 -- A text that is spelled of tokens is read as them.
-use Rattle.std.proofs.Common.{◌≡◌, ◌∙◌, ℕ, zero, suc, ◌+◌, ◌-◌, ◌<◌, ◌≤◌, ◌⊎◌, inl, inr, List, [], ◌∷◌, ◌++◌, length, take, drop, Bool, true, false, ◌||◌, ◌&&◌, cond, eqb, leb, Contains, refl, ap, sym, subst, arith, append-nil}
+use Rattle.std.proofs.Common.{◌≡◌, ◌∙◌, ℕ, zero, suc, ◌<◌, inl, inr, List, [], ◌∷◌, ◌++◌, length, Bool, true, false, eqb, refl, ap, sym, subst, arith, append-nil}
 use Rattle.std.specs.Prelude.{replicate}
 use Rattle.std.specs.List.{prefix_len}
 use Rattle.std.proofs.Math.Seq.{take-append_seam, drop-append_seam}
 use Rattle.std.proofs.lemmas.Bool.Decides.{nat_tests}
-use Rattle.model_texts.specs.Tokens.{begins_word, in_word, in_number, is_pair, pair_len, token_len, after_space, spelling, next, ahead}
-use Rattle.model_laws.specs.Spelling.{is_letter, is_digit, AllPass, Ends, IsWord, IsNumber, pairs, singles, before_equals, IsPair, IsSingle, IsToken, IsSpelled}
+use Rattle.model_texts.specs.Tokens.{begins_word, in_word, in_number, is_pair, token_len, after_space, spelling, next, ahead}
+use Rattle.model_laws.specs.Spelling.{is_letter, is_digit, AllPass, Ends, IsWord, IsNumber, pairs, singles, before_equals, IsToken, IsSpelled}
 use Rattle.model_laws.proofs.Membership.{AllAre, of_all}
 use Rattle.model_laws.proofs.Streams.{AreRead}
 

@@ -1,5 +1,5 @@
 -- Written conditions are read.
-use Rattle.std.proofs.Common.{◌≡◌, ◌∙◌, ℕ, zero, suc, ◌+◌, ◌<◌, ◌≤◌, ◌⊎◌, inl, inr, List, [], ◌∷◌, ◌++◌, length, Bool, true, false, ◌||◌, eqb, ltb, leb, Option, Some, None, Ok, codes, append_assoc, Contains, refl, ap, sym, subst, arith}
+use Rattle.std.proofs.Common.{◌≡◌, ◌∙◌, ℕ, zero, suc, ◌+◌, ◌<◌, ◌≤◌, ◌⊎◌, inl, inr, List, [], ◌∷◌, ◌++◌, length, true, false, eqb, ltb, Ok, codes, append_assoc, refl, ap, sym, subst, arith}
 use Rattle.std.specs.List.{count_by}
 use Rattle.std.specs.Str.{bytes_eq}
 use Rattle.std.proofs.lemmas.Bool.Decides.{nat_tests}
@@ -11,9 +11,9 @@ use Rattle.model_eval.specs.declared.conditions.Test.TheVariants as t
 use Rattle.model_eval.specs.declared.conditions.WordName.{WordName}
 use Rattle.model_eval.specs.declared.custom_model.Area.{Area}
 use Rattle.model_texts.specs.Tokens.{Reader, spelling, next, ahead, sees, after, expect, finish}
-use Rattle.model_texts.specs.Conditions.{part_turn, parts, ands, ors, nots, bang_turn, bangs, plain, atom, negation, conjunction, alternative, test_at, whole, condition_of}
+use Rattle.model_texts.specs.Conditions.{part_turn, parts, nots, bang_turn, bangs, atom, negation, conjunction, alternative, test_at, condition_of}
 use Rattle.model_laws.specs.Conditions.{flags}
-use Rattle.model_laws.specs.Grammar.{numbers, enums, IsFlag, IsPlain, IsInParentheses, IsDenied, AreJoined, IsAll, IsAny, IsOf, IsWritten, ConditionsAreRead}
+use Rattle.model_laws.specs.Grammar.{numbers, enums, IsPlain, IsInParentheses, IsDenied, AreJoined, IsAll, IsOf, IsWritten, ConditionsAreRead}
 use Rattle.model_laws.proofs.Cuts.{nothing_ahead, spelled_read}
 use Rattle.model_laws.proofs.Membership.{AllAre, of_all}
 use Rattle.model_laws.proofs.Plain.{plain_read}

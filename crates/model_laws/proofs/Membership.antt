@@ -1,5 +1,5 @@
 -- What holds of each element of a list that is written out holds of what it has.
-use Rattle.std.proofs.Common.{◌≡◌, ℕ, suc, zero, ◌<◌, List, [], ◌∷◌, length, get_or, Contains, subst, arith}
+use Rattle.std.proofs.Common.{ℕ, suc, zero, ◌<◌, List, [], ◌∷◌, length, get_or, Contains, subst, arith}
 
 abbrev pub AllAre : {A : Type 0} → (A → Type 0) → List A → Type 0
 AllAre P [] = Unit {0}

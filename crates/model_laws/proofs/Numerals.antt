@@ -1,15 +1,13 @@
 -- Decimals are read as what they are worth.
-use Rattle.std.proofs.Common.{◌≡◌, ◌≢◌, ◌∙◌, ℕ, suc, zero, ℤ, pos, ◌+◌, ◌-◌, ◌*◌, ◌^◌, ◌<◌, ◌≤◌, List, [], ◌∷◌, ◌++◌, length, length-append, take, drop, append-nil, Bool, true, false, eqb, ltb, leb, Option, Some, None, IsTrue, refl, ap, sym, subst, arith}
+use Rattle.std.proofs.Common.{◌≡◌, ◌∙◌, ℕ, suc, pos, ◌+◌, ◌-◌, ◌*◌, ◌^◌, ◌<◌, ◌≤◌, List, [], ◌∷◌, ◌++◌, length, length-append, drop, append-nil, true, false, eqb, ltb, leb, Some, None, refl, ap, sym, arith}
 use Rattle.std.specs.Prelude.{position, int_lt}
-use Rattle.std.specs.Char.{is_ascii_digit}
 use Rattle.std.specs.List.{position_or_len}
-use Rattle.std.proofs.Math.Nat.{pow-succ', eq_of_mul-eq-mul_right, mul_assoc, mul_comm, add-mul}
-use Rattle.std.proofs.lemmas.Bool.{ne_eqb}
+use Rattle.std.proofs.Math.Nat.{pow-succ', eq_of_mul-eq-mul_right, mul_assoc, add-mul}
 use Rattle.std.proofs.lemmas.Bool.Decides.{nat_tests}
 use Rattle.std.proofs.lemmas.Int.{ints}
 use Rattle.std.proofs.lemmas.List.{take_at}
 use Rattle.std.proofs.lemmas.Nat.{pow-add}
-use Rattle.gh_base.specs.Decimals.{digits_from, natural_of, split_at_dot, decimal_of, is_minus, signed}
+use Rattle.gh_base.specs.Decimals.{digits_from, natural_of, split_at_dot, decimal_of, is_minus}
 use Rattle.exact_json.proofs.Limits.{ten_pow}
 use Rattle.model_texts.specs.Amounts.{natural, constant_of, factor_of, within}
 use Rattle.model_laws.specs.Spelling.{is_digit, AllPass}

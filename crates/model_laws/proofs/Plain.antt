@@ -1,5 +1,5 @@
 -- Plain conditions are read.
-use Rattle.std.proofs.Common.{◌≡◌, ◌≢◌, ◌∙◌, ℕ, zero, suc, ◌+◌, ◌<◌, ◌⊎◌, inl, inr, List, [], ◌∷◌, ◌++◌, length, Option, Some, None, Ok, Bool, true, false, codes, refl, ap, sym, subst, arith}
+use Rattle.std.proofs.Common.{◌≡◌, ◌≢◌, ◌∙◌, ℕ, zero, suc, ◌+◌, inl, inr, List, [], ◌∷◌, ◌++◌, Some, None, Ok, Bool, true, false, codes, refl, ap, sym, subst, arith}
 use Rattle.std.specs.Str.{bytes_eq}
 use Rattle.std.proofs.lemmas.Slice.Eq.{bytes_eq-Decides}
 use Rattle.model_eval.specs.declared.conditions.NumberName.{NumberName}
@@ -10,10 +10,10 @@ use Rattle.model_eval.specs.declared.conditions.WordName.{WordName}
 use Rattle.model_eval.specs.declared.conditions.WordName.TheVariants as word
 use Rattle.model_eval.specs.declared.custom_model.Area.{Area}
 use Rattle.model_texts.specs.Tokens.{spelling, next}
-use Rattle.model_texts.specs.Words.{flag_of, enum_of, number_of, op_of, equal_of, word_of, area_of, place_from}
+use Rattle.model_texts.specs.Words.{enum_of, number_of, op_of, equal_of, word_of, place_from}
 use Rattle.model_texts.specs.Amounts.{constant_of}
-use Rattle.model_texts.specs.Conditions.{kind_of, alone, plain, is_word, comparison}
-use Rattle.model_laws.specs.Conditions.{flags, operators, classes, surfaces, tolls}
+use Rattle.model_texts.specs.Conditions.{alone, plain, is_word, comparison}
+use Rattle.model_laws.specs.Conditions.{flags, operators}
 use Rattle.model_laws.specs.Grammar.{numbers, enums, words_of, equals, IsFirst, IsFlag, IsInside, IsOneWord, IsComparison, IsPlain}
 use Rattle.model_laws.proofs.Membership.{AllAre, of_all}
 use Rattle.model_laws.proofs.Streams.{AreRead}

@@ -1,6 +1,6 @@
 -- Texts as the tokens that are read from them, one by one.
-use Rattle.std.proofs.Common.{◌≡◌, ◌∙◌, ℕ, zero, suc, ◌+◌, ◌-◌, ◌<◌, ◌≤◌, List, [], ◌∷◌, ◌++◌, length, take, drop, length-drop, Bool, true, false, cond, eqb, refl, ap, sym, subst, arith}
-use Rattle.model_texts.specs.Tokens.{token_len, after_space, spelling, next, ahead}
+use Rattle.std.proofs.Common.{◌≡◌, ℕ, zero, suc, ◌<◌, ◌≤◌, List, [], ◌∷◌, ◌++◌, length, take, length-drop, Bool, true, false, cond, eqb, refl, arith}
+use Rattle.model_texts.specs.Tokens.{token_len, after_space, spelling, next}
 
 -- these tokens are read from i, and this is left
 abbrev pub AreRead : List (List ℕ) → List ℕ → List ℕ → Type 0

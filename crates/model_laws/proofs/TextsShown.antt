@@ -1,5 +1,5 @@
 -- The texts compute.
-use Rattle.std.proofs.Common.{◌≡◌, refl}
+use Rattle.std.proofs.Common.{refl}
 use Rattle.gh_base.specs.Decimals.{natural_of, split_at_dot, decimal_of}
 use Rattle.model_texts.specs.Tokens.{spelling, next, ahead, sees, after, expect, finish}
 use Rattle.model_texts.specs.Amounts.{constant_of, factor_of, front_of}

@@ -1,12 +1,10 @@
 -- Values that write whole models are read as them.
-use Rattle.std.proofs.Common.{◌≡◌, ◌≢◌, ◌∙◌, ℕ, zero, suc, ◌+◌, ◌-◌, ◌*◌, ◌/◌, ◌%◌, ◌^◌, ◌<◌, ◌≤◌, ◌⊎◌, inl, inr, List, [], ◌∷◌, ◌++◌, length, append-nil, append_assoc, Bool, true, false, ◌||◌, ◌&&◌, not, eqb, ltb, leb, Option, Some, None, Ok, Err, codes, refl, ap, sym, subst, arith}
-use Rattle.std.specs.List.{list_all}
+use Rattle.std.proofs.Common.{◌≡◌, ◌≢◌, ◌∙◌, ℕ, suc, ◌+◌, ◌-◌, ◌*◌, ◌/◌, ◌%◌, ◌^◌, ◌≤◌, ◌⊎◌, inl, inr, List, [], ◌∷◌, ◌++◌, length, append-nil, append_assoc, Bool, true, false, ltb, leb, Option, Some, None, Ok, Err, codes, refl, ap, sym, subst, arith}
 use Rattle.std.specs.Str.{bytes_eq}
 use Rattle.std.proofs.Math.Nat.{mul_assoc, mul-mod_left, mul-div_cancel, eq_of_mul-eq-mul_right}
 use Rattle.std.proofs.lemmas.Bool.Decides.{nat_tests}
 use Rattle.std.proofs.lemmas.Nat.{pow-add}
 use Rattle.std.proofs.lemmas.Slice.Eq.{bytes_eq-Decides}
-use Rattle.gh_base.specs.Decimals.{decimal_of}
 use Rattle.gh_base.specs.declared.kinds.ModelKind.TheVariants.{NoIf}
 use Rattle.gh_base.specs.declared.kinds.Part.TheVariants as part
 use Rattle.exact_json.proofs.Limits.{ten_pow}
@@ -17,26 +15,22 @@ use Rattle.exact_json.specs.declared.value.Json.TheVariants.{rolls-Null, rolls-N
 use Rattle.exact_json.specs.declared.value.Json.TheOpen.{Json-F}
 use Rattle.exact_json.specs.declared.value.Member.{Member, out-Member}
 use Rattle.model_eval.specs.declared.conditions.Test.{Test}
-use Rattle.model_eval.specs.declared.conditions.Test.TheVariants as t
 use Rattle.model_eval.specs.declared.custom_model.Action.{Action}
 use Rattle.model_eval.specs.declared.custom_model.Area.{Area}
 use Rattle.model_eval.specs.declared.custom_model.Branch.{Branch}
 use Rattle.model_eval.specs.declared.custom_model.Branch.TheVariants.{If, ElseIf, Else}
-use Rattle.model_eval.specs.declared.custom_model.CustomModel.{CustomModel}
 use Rattle.model_eval.specs.declared.custom_model.Running.{Running}
 use Rattle.model_eval.specs.declared.custom_model.Running.TheVariants.{Speed, Priority}
 use Rattle.model_eval.specs.declared.custom_model.Statement.{Statement}
 use Rattle.model_eval.specs.Models as models
 use Rattle.model_texts.specs.declared.amounts.Verb.{Verb}
 use Rattle.model_texts.specs.declared.amounts.Verb.TheVariants.{Multiply, Limit}
-use Rattle.model_texts.specs.Amounts.{places_of, most_of}
-use Rattle.model_texts.specs.Conditions.{condition_of}
 use Rattle.model_parser.specs.Features.{areas_of, collection_of}
-use Rattle.model_parser.specs.ModelText.{are_keys, is_key, whole_number, whole_text, influence_of, model_of}
+use Rattle.model_parser.specs.ModelText.{are_keys, whole_number, whole_text, influence_of, model_of}
 use Rattle.model_parser.specs.Statements.{branch_of, verb_of, part_of, scaled, is_amount, action_by, acting, written, statement_of, statements_from, list_of, statements_of}
 use Rattle.model_parser.specs.Values.{object_in, object_of, array_in, array_of, text_in, text_of, number_in, number_of, null_in, is_null, find}
 use Rattle.model_laws.specs.Numerals.{IsDecimal}
-use Rattle.model_laws.specs.Wholes.{IsMember, Asks, branch_key, verb_key, IsExactly, IsConstant, Does, IsStatement, MayStand, goes_on, goes_on_behind, at_item, IsOrphaned, AreStatements, IsList, IsInfluence, Lacks, Has, IsPart, AreKeys, IsModelOf, OrphansAreRefused, ModelsAreRead}
+use Rattle.model_laws.specs.Wholes.{Asks, branch_key, verb_key, IsExactly, IsConstant, Does, IsStatement, MayStand, goes_on, goes_on_behind, at_item, IsOrphaned, AreStatements, IsList, IsInfluence, Lacks, Has, IsPart, AreKeys, OrphansAreRefused, ModelsAreRead}
 use Rattle.model_laws.proofs.Numerals.{decimal_read, within_is}
 
 -- ---- a layer of a value
@@ -312,8 +306,14 @@ priority_orphan : (areas : List Area) (speed : List Statement) (ms : List Member
     IsPart (codes "speed") (speed ≡ []) (IsList Speed areas speed) ms → Has (codes "priority") (IsOrphaned Priority areas item) ms → model_of (j.Object ms) ≡ Err (at_item part.Priority item, NoIf)
 unfolding model_of
 priority_orphan areas speed ms item keys a s h =
-    rw (object_is ms, keys_known ms keys, areas_part areas ms a, statements_part Speed areas (codes "speed") speed ms s, has_found (codes "priority") (IsOrphaned Priority areas item) ms h,
-    orphaned_read Priority areas item (out-Member h.member).value h.is.1) refl
+    rw (
+      object_is ms,
+      keys_known ms keys,
+      areas_part areas ms a,
+      statements_part Speed areas (codes "speed") speed ms s,
+      has_found (codes "priority") (IsOrphaned Priority areas item) ms h,
+      orphaned_read Priority areas item (out-Member h.member).value h.is.1,
+    ) refl
 
 pub orphans_refused : OrphansAreRefused
 orphans_refused = record {

@@ -1,7 +1,6 @@
 -- Which texts write an action (GraphHopper documentation, "Custom models", operators; the exact form is this project's own).
 use Rattle.std.specs.Prelude.{◌≡◌, ℕ, ◌≤◌, ◌⊎◌, List, [], ◌∷◌, Ok, Contains, codes}
 use Rattle.model_eval.specs.declared.conditions.NumberName.{NumberName}
-use Rattle.model_eval.specs.declared.custom_model.Action.{Action}
 use Rattle.model_eval.specs.declared.custom_model.Action.TheVariants as action
 use Rattle.model_eval.specs.declared.custom_model.Running.{Running}
 use Rattle.model_eval.specs.declared.custom_model.Running.TheVariants.{Speed, Priority}

@@ -1,6 +1,6 @@
 -- What a list of statements makes of a number, from its front on (GraphHopper documentation, "Custom models"): of an `if`
 -- and what follows it up to the next, the first true statement acts, and then what stands behind them.
-use Rattle.std.specs.Prelude.{◌≡◌, ◌≢◌, ℕ, ◌+◌, ◌*◌, ◌<◌, ◌≤◌, min, Bool, true, false, List, [], ◌∷◌}
+use Rattle.std.specs.Prelude.{◌≡◌, ℕ, ◌+◌, ◌*◌, ◌<◌, ◌≤◌, min, true, false, List, [], ◌∷◌}
 use Rattle.encoded_values.specs.Values.{Values}
 use Rattle.model_eval.specs.Conditions.{passes}
 use Rattle.model_eval.specs.Running.{run}
@@ -11,7 +11,7 @@ use Rattle.model_eval.specs.declared.custom_model.Action.TheVariants as action
 use Rattle.model_eval.specs.declared.custom_model.Branch.{Branch}
 use Rattle.model_eval.specs.declared.custom_model.Branch.TheVariants.{If, ElseIf, Else}
 use Rattle.model_eval.specs.declared.custom_model.Running.{Running}
-use Rattle.model_eval.specs.declared.custom_model.Running.TheVariants.{Speed, Priority}
+use Rattle.model_eval.specs.declared.custom_model.Running.TheVariants.{Speed}
 use Rattle.model_eval.specs.declared.custom_model.Statement.{Statement}
 
 -- the first at an `if`, else the second

@@ -1,8 +1,7 @@
 -- Conditions, by texts and what they are (GraphHopper documentation, "Custom models", conditions).
-use Rattle.std.specs.Prelude.{◌≡◌, ℕ, Bool, true, false, List, [], ◌∷◌, ◌++◌, Result, Ok, Err, map, codes}
+use Rattle.std.specs.Prelude.{◌≡◌, ℕ, Bool, true, false, List, [], ◌∷◌, ◌++◌, Ok, Err, map, codes}
 use Rattle.gh_base.specs.declared.kinds.ModelKind.{ModelKind}
-use Rattle.gh_base.specs.declared.kinds.ModelKind.TheVariants.{Condition, Name, TooMany}
-use Rattle.model_eval.specs.declared.conditions.FlagName.{FlagName}
+use Rattle.gh_base.specs.declared.kinds.ModelKind.TheVariants.{Condition, Name}
 use Rattle.model_eval.specs.declared.conditions.FlagName.TheVariants as flag
 use Rattle.model_eval.specs.declared.conditions.NumberName.{NumberName}
 use Rattle.model_eval.specs.declared.conditions.NumberName.TheVariants as number

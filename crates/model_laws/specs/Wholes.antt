@@ -1,6 +1,6 @@
 -- Which JSON values write statements and whole models (GraphHopper documentation, "Custom models"; the exact form is this
 -- project's own).
-use Rattle.std.specs.Prelude.{◌≡◌, ◌≢◌, ℕ, ◌+◌, ◌*◌, ◌^◌, ◌≤◌, ◌⊎◌, Bool, true, false, List, [], ◌∷◌, ◌++◌, length, Option, Some, None, Ok, Err, codes}
+use Rattle.std.specs.Prelude.{◌≡◌, ◌≢◌, ℕ, ◌+◌, ◌*◌, ◌^◌, ◌≤◌, ◌⊎◌, Bool, true, false, List, [], ◌∷◌, ◌++◌, length, Some, None, Ok, Err, codes}
 use Rattle.gh_base.specs.declared.kinds.ModelKind.TheVariants.{NoIf}
 use Rattle.gh_base.specs.declared.kinds.Part.{Part}
 use Rattle.gh_base.specs.declared.kinds.Part.TheVariants as part
