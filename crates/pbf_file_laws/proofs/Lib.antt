@@ -1,0 +1,4 @@
+pub mod Varints
+pub mod Fields
+pub mod Runs
+pub mod Says

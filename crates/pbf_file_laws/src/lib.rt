@@ -1,0 +1,11 @@
+//! The law of PBF files: what a file says, in the words of the OSM wiki and of Protocol Buffers, is what is read.
+//!
+//! It is no part of the program. Stands on `pbf_wire` for what is read of a file. `specs/` says what a file is:
+//! its messages (Messages), what their fields say (Saying), and the map that they are together.
+#![tactic(auto)]
+
+mod laws;
+
+pub use laws::{
+    fields_are_read, messages_are_read, scalars_are_read, lists_are_read,
+};
