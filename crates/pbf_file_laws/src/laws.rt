@@ -1,5 +1,7 @@
 //! The laws. Each function does nothing: what it ensures is the law.
 ghost use Rattle.pbf_file_laws.specs.Reading.{FieldsAreRead, MessagesAreRead, ScalarsAreRead, ListsAreRead};
+ghost use Rattle.pbf_file_laws.specs.Nodes.{NodesAreRead, DenseNodesAreRead};
+ghost use Rattle.pbf_file_laws.specs.Ways.{WaysAreRead};
 
 /// A field is read whole, in any spelling and of each wire type.
 pub fn fields_are_read()
@@ -19,4 +21,19 @@ pub fn scalars_are_read()
 /// A list is what its fields say one behind another: packed, one by one, or in pieces.
 pub fn lists_are_read()
     ensures { ListsAreRead }
+{}
+
+/// A node is read, with granularity and offsets.
+pub fn nodes_are_read()
+    ensures { NodesAreRead }
+{}
+
+/// Dense nodes are read from their differences, with their tags.
+pub fn dense_nodes_are_read()
+    ensures { DenseNodesAreRead }
+{}
+
+/// A way is read, with its references and its tags.
+pub fn ways_are_read()
+    ensures { WaysAreRead }
 {}
