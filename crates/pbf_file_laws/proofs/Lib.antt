@@ -5,3 +5,7 @@ pub mod Says
 pub mod Numbers
 pub mod NodesRead
 pub mod WaysRead
+pub mod GroupsRead
+pub mod BlocksRead
+pub mod BlobsRead
+pub mod FilesRead

@@ -23,7 +23,7 @@ part_stands bytes content at h =
     let place = h.place in
     rw (h.whole, place) (drop-append_seam h.before content)
 
-or_else_assoc : {X : Type 0} (a b d : Option X) → or_else (or_else a b) d ≡ or_else a (or_else b d)
+pub or_else_assoc : {X : Type 0} (a b d : Option X) → or_else (or_else a b) d ≡ or_else a (or_else b d)
 or_else_assoc None b d = refl
 or_else_assoc (Some x) b d = refl
 
@@ -53,7 +53,7 @@ scalar_from bytes number (spot ∷ spots) (entry ∷ entries) found are =
     let step = scalar_step bytes number entry.number spot.field entry.value found are.0.number are.0.value in
     ap (λ (f : Option ℕ). scalar_of number f spots) step ∙ scalar_from bytes number spots entries (or_else (own_number number entry) found) are.1 ∙ sym (or_else_assoc (scalar number entries) (own_number number entry) found)
 
-none_behind : {X : Type 0} (o : Option X) → or_else o None ≡ o
+pub none_behind : {X : Type 0} (o : Option X) → or_else o None ≡ o
 none_behind None = refl
 none_behind (Some x) = refl
 

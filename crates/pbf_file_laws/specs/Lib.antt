@@ -3,3 +3,5 @@ pub mod Saying
 pub mod Reading
 pub mod Nodes
 pub mod Ways
+pub mod Blocks
+pub mod Files

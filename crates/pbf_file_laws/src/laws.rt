@@ -2,6 +2,8 @@
 ghost use Rattle.pbf_file_laws.specs.Reading.{FieldsAreRead, MessagesAreRead, ScalarsAreRead, ListsAreRead};
 ghost use Rattle.pbf_file_laws.specs.Nodes.{NodesAreRead, DenseNodesAreRead};
 ghost use Rattle.pbf_file_laws.specs.Ways.{WaysAreRead};
+ghost use Rattle.pbf_file_laws.specs.Blocks.{GroupsAreRead, BlocksAreRead};
+ghost use Rattle.pbf_file_laws.specs.Files.{FilesAreRead};
 
 /// A field is read whole, in any spelling and of each wire type.
 pub fn fields_are_read()
@@ -36,4 +38,19 @@ pub fn dense_nodes_are_read()
 /// A way is read, with its references and its tags.
 pub fn ways_are_read()
     ensures { WaysAreRead }
+{}
+
+/// A group is read: its nodes, then its dense nodes, and its ways.
+pub fn groups_are_read()
+    ensures { GroupsAreRead }
+{}
+
+/// A block is read: its strings, its scale, and its groups in order.
+pub fn blocks_are_read()
+    ensures { BlocksAreRead }
+{}
+
+/// A file is read as its map, blob by blob.
+pub fn files_are_read()
+    ensures { FilesAreRead }
 {}
