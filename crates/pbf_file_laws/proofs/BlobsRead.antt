@@ -1,18 +1,17 @@
 -- Blobs are read, behind their lengths and BlobHeaders.
-use Rattle.std.proofs.Common.{◌≡◌, ◌≢◌, ◌∙◌, ℕ, zero, suc, ◌+◌, ◌<◌, ◌≤◌, List, [], ◌∷◌, ◌++◌, length, take, drop, codes, Option, Some, None, Ok, Bool, true, false, not, ◌&&◌, ◌||◌, ltb, leb, eqb, inl, inr, refl, sym, ap, subst, arith, append_assoc, append-nil, length-append}
-use Rattle.std.specs.Prelude.{◌==◌, nat_le, if◌then◌else◌}
+use Rattle.std.proofs.Common.{◌≡◌, ◌≢◌, ◌∙◌, ℕ, ◌+◌, ◌<◌, ◌≤◌, List, [], ◌∷◌, ◌++◌, length, take, drop, codes, Option, Some, None, Ok, Bool, true, false, not, ◌&&◌, ltb, leb, inl, inr, refl, sym, ap, subst, arith, append_assoc, append-nil, length-append}
+use Rattle.std.specs.Prelude.{◌==◌, if◌then◌else◌}
 use Rattle.std.specs.List.{AllByRecursion}
 use Rattle.std.specs.Str.{bytes_eq}
 use Rattle.std.specs.Int.{bytes_high_first}
 use Rattle.std.proofs.lemmas.Bool.Decides.{nat_tests}
-use Rattle.std.proofs.lemmas.Bool.{false_from_ne_true, and_right, or_left, or_right}
+use Rattle.std.proofs.lemmas.Bool.{false_from_ne_true, and_right}
 use Rattle.std.proofs.lemmas.List.{take_at, take-take, length-take}
 use Rattle.std.proofs.lemmas.Slice.Eq.{bytes_eq-Decides}
 use Rattle.std.proofs.Math.Seq.{drop-append_seam}
 use Rattle.byteorder.specs.Endian.{big_number}
 use Rattle.byteorder.specs.Numbers.{big_number-reads_back, length-bytes_high_first}
 use Rattle.gh_base.specs.declared.map.OsmMap.{OsmMap}
-use Rattle.pbf_wire.specs.declared.wire.Field.{Field}
 use Rattle.pbf_wire.specs.declared.fields.Spot.{Spot}
 use Rattle.pbf_wire.specs.declared.fields.Piece.{Piece}
 use Rattle.pbf_wire.specs.declared.messages.BlobHeader.{BlobHeader}
@@ -21,7 +20,7 @@ use Rattle.pbf_wire.specs.Headers.{is_known, features_in, header_block}
 use Rattle.pbf_wire.specs.Blobs.{header_length, header_at, is_content, last_content, content_at, blob_with}
 use Rattle.pbf_file_laws.specs.Messages.{Value, Entry}
 use Rattle.pbf_file_laws.specs.Saying.{or_else, content_in, contents}
-use Rattle.pbf_file_laws.specs.Reading.{Stands, IsValueAt, IsFieldAt, AreFields}
+use Rattle.pbf_file_laws.specs.Reading.{Stands, IsValueAt, AreFields}
 use Rattle.pbf_file_laws.specs.Blocks.{plus, no_map}
 use Rattle.pbf_file_laws.specs.Files.{Held, held_in, last_held, is_data, is_type, IsRaw, IsKnown, IsHeader, Kind, IsNamed, BlobSays, IsBlob}
 use Rattle.pbf_file_laws.proofs.Runs.{message_read}

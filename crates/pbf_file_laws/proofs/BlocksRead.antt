@@ -1,5 +1,5 @@
 -- Blocks are read: strings, scale and groups.
-use Rattle.std.proofs.Common.{◌≡◌, ◌∙◌, ℕ, ℤ, pos, List, [], ◌∷◌, ◌++◌, length, take, IsUtf8, Option, Some, None, Ok, Bool, true, false, ◌&&◌, eqb, refl, sym, ap, append_assoc, append-nil}
+use Rattle.std.proofs.Common.{◌≡◌, ◌∙◌, ℕ, ℤ, List, [], ◌∷◌, ◌++◌, length, take, IsUtf8, Option, Some, None, Ok, Bool, true, false, ◌&&◌, refl, sym, ap, append_assoc, append-nil}
 use Rattle.std.specs.Prelude.{◌==◌, unwrap_or, if◌then◌else◌}
 use Rattle.std.specs.List.{AllByRecursion}
 use Rattle.std.specs.Int.{cast_signed, w64}
@@ -11,15 +11,12 @@ use Rattle.pbf_wire.specs.declared.fields.Spot.{Spot}
 use Rattle.pbf_wire.specs.declared.fields.Piece.{Piece}
 use Rattle.pbf_wire.specs.declared.messages.Scale.{Scale}
 use Rattle.pbf_wire.specs.declared.messages.Groups.{Groups}
-use Rattle.pbf_wire.specs.declared.messages.Block.{Block}
-use Rattle.pbf_wire.specs.Runs.{least}
-use Rattle.pbf_wire.specs.Pieces.{is_bytes, pieces_of, part_of, joined_of}
-use Rattle.pbf_wire.specs.Groups.{group_of}
+use Rattle.pbf_wire.specs.Pieces.{is_bytes, pieces_of, part_of}
 use Rattle.pbf_wire.specs.Blocks.{groups_of, block_of, text_in, texts_in, granularity_of, groups_with, block_with}
 use Rattle.pbf_file_laws.specs.Messages.{Value, Entry}
 use Rattle.pbf_file_laws.specs.Saying.{scalar, content_in, contents, joined, Pairwise}
 use Rattle.pbf_file_laws.specs.Reading.{Stands, IsValueAt, AreFields, IsRun}
-use Rattle.pbf_file_laws.specs.Blocks.{IsGroup, plus, together, IsGranularity, IsOffset, IsBlock, BlocksAreRead}
+use Rattle.pbf_file_laws.specs.Blocks.{IsGroup, plus, together, IsGranularity, IsOffset, BlocksAreRead}
 use Rattle.pbf_file_laws.proofs.Runs.{message_read}
 use Rattle.pbf_file_laws.proofs.Says.{part_stands, scalar_read, joined_read}
 use Rattle.pbf_file_laws.proofs.Numbers.{int32_read, int64_read}
@@ -149,5 +146,5 @@ block_read file content m piece part stands h =
     let groups = groups_read h.texts h.scale bytes m run.spots h.entries h.groups run.are h.groups_are in
     let block = block_is bytes piece.start h.entries h.table.entries run strings groups.fine in
     let texts : texts_in (joined (contents 1 h.entries)) (pieces_of 1 run.spots) strings.spots ≡ Ok h.texts =
-      texts_read (joined (contents 1 h.entries)) (pieces_of 1 run.spots) strings.spots h.table.entries strings.are h.table.are ∙ ap (λ (ts : List (List ℕ)). Ok ts) (sym h.table.strings) in
+    texts_read (joined (contents 1 h.entries)) (pieces_of 1 run.spots) strings.spots h.table.entries strings.are h.table.are ∙ ap (λ (ts : List (List ℕ)). Ok ts) (sym h.table.strings) in
     rw (block, texts, granularity_read (scalar 17 h.entries) h.scale.granularity h.granularity, offset_read (scalar 19 h.entries) h.scale.lat_offset h.lat_offset, offset_read (scalar 20 h.entries) h.scale.lon_offset h.lon_offset, groups.adds, h.all) refl

@@ -1,12 +1,12 @@
 -- A field in any spelling is read, whatever follows it.
-use Rattle.std.proofs.Common.{◌≡◌, ◌∙◌, ℕ, ◌+◌, ◌-◌, ◌*◌, ◌/◌, ◌%◌, ◌<◌, ◌≤◌, List, [], ◌∷◌, ◌++◌, length, take, drop, Ok, Result, Bool, true, false, leb, eqb, refl, sym, ap, subst, arith, append_assoc, length-append}
+use Rattle.std.proofs.Common.{◌≡◌, ◌∙◌, ℕ, ◌+◌, ◌-◌, ◌*◌, ◌/◌, ◌%◌, ◌<◌, ◌≤◌, List, ◌++◌, length, take, drop, Ok, Result, true, false, leb, eqb, refl, sym, ap, subst, arith, append_assoc, length-append}
 use Rattle.std.proofs.lemmas.Bool.Decides.{nat_tests}
 use Rattle.std.proofs.lemmas.List.{take_at}
 use Rattle.pbf_wire.specs.declared.wire.WireKind.{WireKind}
 use Rattle.pbf_wire.specs.declared.wire.Field.{Field}
 use Rattle.pbf_wire.specs.Wire.{varint_at, value_of, behind_key, field_of, little_endian}
-use Rattle.pbf_file_laws.specs.Messages.{IsVarint, varint_text, worth, Value, Entry, IsValue, IsEntry, wire_type, value_text, entry_text}
-use Rattle.pbf_file_laws.specs.Reading.{Stands, IsFieldAt, IsRead, FieldsAreRead}
+use Rattle.pbf_file_laws.specs.Messages.{IsVarint, varint_text, worth, Value, IsValue, wire_type, value_text}
+use Rattle.pbf_file_laws.specs.Reading.{Stands, IsRead, FieldsAreRead}
 use Rattle.pbf_file_laws.proofs.Varints.{varint_here, varint_there}
 
 value_fits : (all : List ℕ) (number wire value start size end : ℕ) → start + size ≡ end → end ≤ length all → value_of all number wire value start size ≡ Ok (record { number = number; wire = wire; value = value; start = start; end = end; next = end })
@@ -93,7 +93,7 @@ behind front rest number key (Value.Bytes size content) some is says good =
     let field : Field = record { number = number; wire = 2; value = worth size; start = start; end = end; next = end } in
     let read = field_by all (length front) (worth key) (length front + length k) number 2 (Ok field) first (omega arith) (omega arith) (key_bytes all number (length front + length k) start (worth size) end some second (omega arith) (omega arith)) in
     let here : IsRead all (length front) (record { number = number; key = key; value = Value.Bytes size content }) =
-      record { field = field; read = read; is = record { number = refl; value = (refl, omega arith, content_stands front k s content rest start end refl refl) }; next = omega arith } in
+    record { field = field; read = read; is = record { number = refl; value = (refl, omega arith, content_stands front k s content rest start end refl refl) }; next = omega arith } in
     subst (λ (l : List ℕ). IsRead (front ++ (k ++ l)) (length front) (record { number = number; key = key; value = Value.Bytes size content })) (sym (append_assoc s content rest)) here
 behind front rest number key (Value.Four bytes) some is says good =
     let k = varint_text key in

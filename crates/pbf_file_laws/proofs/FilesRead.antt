@@ -8,8 +8,8 @@ use Rattle.pbf_wire.specs.Blobs.{header_at, blob_with}
 use Rattle.pbf_wire.specs.Files.{blobs_from, reads}
 use Rattle.pbf_file_laws.specs.Saying.{joined, Pairwise}
 use Rattle.pbf_file_laws.specs.Blocks.{plus, no_map, together}
-use Rattle.pbf_file_laws.specs.Files.{Kind, IsBlob, IsAnyBlob, IsFile, FilesAreRead}
-use Rattle.pbf_file_laws.proofs.BlobsRead.{StandsIn, HeaderAt, header_read, blob_adds, size_of, size_length}
+use Rattle.pbf_file_laws.specs.Files.{Kind, IsBlob, IsAnyBlob, FilesAreRead}
+use Rattle.pbf_file_laws.proofs.BlobsRead.{StandsIn, header_read, blob_adds, size_of, size_length}
 
 blob_length : (kind : Kind) (bytes : List ℕ) (part : OsmMap) → (h : IsBlob kind bytes part) → length bytes ≡ 4 + length h.header + length h.blob
 blob_length kind bytes part h =

@@ -1,10 +1,9 @@
 -- Groups are read: nodes, dense nodes and ways, in any order.
-use Rattle.std.proofs.Common.{◌≡◌, ◌∙◌, ℕ, List, [], ◌∷◌, ◌++◌, take, Some, None, Ok, Bool, true, false, not, ◌&&◌, eqb, inl, refl, sym, ap, subst, append_assoc, append-nil}
+use Rattle.std.proofs.Common.{◌≡◌, ◌∙◌, ℕ, List, [], ◌∷◌, ◌++◌, take, None, Ok, Bool, true, false, not, ◌&&◌, eqb, inl, refl, sym, subst, append_assoc, append-nil}
 use Rattle.std.specs.Prelude.{◌==◌, if◌then◌else◌}
 use Rattle.std.proofs.lemmas.Bool.{eqb-true, and_left, and_right}
 use Rattle.gh_base.specs.declared.map.OsmNode.{OsmNode}
 use Rattle.gh_base.specs.declared.map.OsmWay.{OsmWay}
-use Rattle.gh_base.specs.declared.map.OsmMap.{OsmMap}
 use Rattle.pbf_wire.specs.declared.fields.Spot.{Spot}
 use Rattle.pbf_wire.specs.declared.fields.Piece.{Piece}
 use Rattle.pbf_wire.specs.declared.messages.Scale.{Scale}
@@ -24,7 +23,7 @@ use Rattle.pbf_file_laws.specs.Saying.{content_in, contents, joined, Pairwise}
 use Rattle.pbf_file_laws.specs.Reading.{Stands, IsValueAt, AreFields}
 use Rattle.pbf_file_laws.specs.Nodes.{IsNode, IsDense, DenseReads}
 use Rattle.pbf_file_laws.specs.Ways.{IsWay}
-use Rattle.pbf_file_laws.specs.Blocks.{AreDense, IsGroup, plus, GroupReads, GroupsAreRead}
+use Rattle.pbf_file_laws.specs.Blocks.{AreDense, GroupsAreRead}
 use Rattle.pbf_file_laws.proofs.Runs.{message_read}
 use Rattle.pbf_file_laws.proofs.Says.{joined_read}
 use Rattle.pbf_file_laws.proofs.NodesRead.{node_read, dense_read}

@@ -9,3 +9,4 @@ pub mod GroupsRead
 pub mod BlocksRead
 pub mod BlobsRead
 pub mod FilesRead
+pub mod Tiles

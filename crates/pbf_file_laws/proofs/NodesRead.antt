@@ -1,5 +1,5 @@
 -- Nodes are read, plain and dense.
-use Rattle.std.proofs.Common.{◌≡◌, ◌≢◌, ◌∙◌, ℕ, zero, suc, ◌%◌, ◌^◌, ℤ, pos, List, [], ◌∷◌, ◌++◌, length, map, Some, None, Ok, Bool, true, false, not, ◌&&◌, ◌||◌, eqb, inl, inr, refl, sym, ap, arith}
+use Rattle.std.proofs.Common.{◌≡◌, ◌∙◌, ℕ, ◌%◌, ◌^◌, ℤ, pos, List, [], ◌∷◌, ◌++◌, length, map, Some, None, Ok, true, false, not, ◌&&◌, eqb, inl, inr, refl, sym, ap}
 use Rattle.std.specs.Prelude.{◌==◌, ◌⊎◌}
 use Rattle.std.specs.List.{AllByRecursion}
 use Rattle.std.proofs.lemmas.Bool.{eq-eqb, ne_eqb, and_right}
@@ -12,9 +12,9 @@ use Rattle.pbf_wire.specs.declared.messages.Dense.{Dense}
 use Rattle.pbf_wire.specs.Pieces.{joined_of}
 use Rattle.pbf_wire.specs.Nodes.{node_of, node_with, lat_axis, lon_axis}
 use Rattle.pbf_wire.specs.Dense.{dense_of, dense_with, nodes_of, after_tags, tags_fit}
-use Rattle.pbf_file_laws.specs.Saying.{sint, differences, Pairwise}
+use Rattle.pbf_file_laws.specs.Saying.{sint, differences}
 use Rattle.pbf_file_laws.specs.Reading.{Stands}
-use Rattle.pbf_file_laws.specs.Nodes.{IsNode, TagAt, pairs, keys_vals, HasKey, AreKeysVals, IsDense, NodeReads, NodesAreRead, DenseReads, DenseNodesAreRead}
+use Rattle.pbf_file_laws.specs.Nodes.{IsNode, TagAt, pairs, keys_vals, HasKey, AreKeysVals, IsDense, NodesAreRead, DenseNodesAreRead}
 use Rattle.pbf_file_laws.proofs.Runs.{message_read}
 use Rattle.pbf_file_laws.proofs.Says.{scalar_read, list_read}
 use Rattle.pbf_file_laws.proofs.Numbers.{zig, short_id, coordinate_read, ids_read, coordinates_read, as_long, pairwise_long}

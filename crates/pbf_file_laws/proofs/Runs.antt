@@ -6,8 +6,8 @@ use Rattle.pbf_wire.specs.declared.wire.Field.{Field}
 use Rattle.pbf_wire.specs.declared.fields.Spot.{Spot}
 use Rattle.pbf_wire.specs.Wire.{field_of}
 use Rattle.pbf_wire.specs.Runs.{run_from, run_of}
-use Rattle.pbf_file_laws.specs.Messages.{Entry, IsEntry, varint_text, value_text, entry_text, message_text, IsMessage}
-use Rattle.pbf_file_laws.specs.Reading.{Stands, IsFieldAt, IsRead, AreFields, IsRun, MessagesAreRead}
+use Rattle.pbf_file_laws.specs.Messages.{Entry, IsEntry, varint_text, value_text, entry_text, message_text}
+use Rattle.pbf_file_laws.specs.Reading.{IsFieldAt, IsRead, AreFields, MessagesAreRead}
 use Rattle.pbf_file_laws.proofs.Varints.{varint_some}
 use Rattle.pbf_file_laws.proofs.Fields.{field_there}
 

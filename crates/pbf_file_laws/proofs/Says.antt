@@ -1,5 +1,5 @@
 -- What the fields of a message say is read.
-use Rattle.std.proofs.Common.{◌≡◌, ◌∙◌, ℕ, zero, suc, ◌+◌, ◌<◌, ◌≤◌, List, [], ◌∷◌, ◌++◌, length, take, drop, map, Option, Some, None, Ok, Bool, true, false, ltb, eqb, refl, sym, ap, subst, arith, append_assoc, append-nil, length-append}
+use Rattle.std.proofs.Common.{◌≡◌, ◌∙◌, ℕ, zero, suc, ◌+◌, ◌<◌, ◌≤◌, List, [], ◌∷◌, ◌++◌, length, take, drop, map, Option, Some, None, Ok, Bool, true, false, ltb, refl, sym, ap, arith, append_assoc, append-nil, length-append}
 use Rattle.std.specs.Prelude.{◌&&◌, ◌==◌, if◌then◌else◌}
 use Rattle.std.proofs.lemmas.Bool.Decides.{nat_tests}
 use Rattle.std.proofs.Math.Seq.{drop-append_seam}
@@ -9,11 +9,11 @@ use Rattle.pbf_wire.specs.declared.fields.Spot.{Spot}
 use Rattle.pbf_wire.specs.declared.fields.Piece.{Piece}
 use Rattle.pbf_wire.specs.declared.fields.Values.{Values}
 use Rattle.pbf_wire.specs.Wire.{varint_at}
-use Rattle.pbf_wire.specs.Pieces.{scalar_of, is_bytes, pieces_of, part_of, joined_of}
+use Rattle.pbf_wire.specs.Pieces.{scalar_of, pieces_of, part_of, joined_of}
 use Rattle.pbf_wire.specs.Lists.{no_values, both, varints_from, varints_of, values_in, values_of}
 use Rattle.pbf_file_laws.specs.Messages.{IsVarint, varint_text, worth, Value, Entry}
-use Rattle.pbf_file_laws.specs.Saying.{or_else, number_in, own_number, scalar, content_in, own_content, contents, joined, varints_text, IsPacked, ValueLists, ByTest, EntryLists, Lists}
-use Rattle.pbf_file_laws.specs.Reading.{Stands, IsValueAt, IsFieldAt, AreFields, ScalarsAreRead, ListsAreRead}
+use Rattle.pbf_file_laws.specs.Saying.{or_else, number_in, own_number, scalar, content_in, contents, joined, varints_text, IsPacked, ValueLists, ByTest, Lists}
+use Rattle.pbf_file_laws.specs.Reading.{Stands, IsValueAt, AreFields, ScalarsAreRead, ListsAreRead}
 use Rattle.pbf_file_laws.proofs.Runs.{message_read}
 use Rattle.pbf_file_laws.proofs.Varints.{varint_some, varint_here}
 

@@ -8,7 +8,7 @@ use Rattle.pbf_wire.specs.declared.messages.Way.{Way}
 use Rattle.pbf_wire.specs.Ways.{way_of, way_with, tags_of}
 use Rattle.pbf_file_laws.specs.Saying.{differences}
 use Rattle.pbf_file_laws.specs.Reading.{Stands}
-use Rattle.pbf_file_laws.specs.Ways.{AreTags, IsWay, WayReads, WaysAreRead}
+use Rattle.pbf_file_laws.specs.Ways.{AreTags, IsWay, WaysAreRead}
 use Rattle.pbf_file_laws.proofs.Runs.{message_read}
 use Rattle.pbf_file_laws.proofs.Says.{scalar_read, list_read}
 use Rattle.pbf_file_laws.proofs.Numbers.{int64_read, short_id, ids_read}

@@ -5,3 +5,4 @@ pub mod Nodes
 pub mod Ways
 pub mod Blocks
 pub mod Files
+pub mod Tiling

@@ -7,7 +7,7 @@ use Rattle.pbf_wire.specs.Runs.{run_of}
 use Rattle.pbf_wire.specs.Pieces.{scalar_of}
 use Rattle.pbf_wire.specs.Lists.{values_of}
 use Rattle.pbf_file_laws.specs.Saying.{scalar, Lists}
-use Rattle.pbf_file_laws.specs.Messages.{worth, Value, Entry, IsEntry, entry_text, IsMessage, wire_type}
+use Rattle.pbf_file_laws.specs.Messages.{worth, Value, Entry, IsEntry, entry_text, IsMessage}
 
 -- these bytes stand from a place to the end
 pub record Stands (bytes : List ℕ) (at : ℕ) (content : List ℕ) : Type 0 where

@@ -4,6 +4,7 @@ ghost use Rattle.pbf_file_laws.specs.Nodes.{NodesAreRead, DenseNodesAreRead};
 ghost use Rattle.pbf_file_laws.specs.Ways.{WaysAreRead};
 ghost use Rattle.pbf_file_laws.specs.Blocks.{GroupsAreRead, BlocksAreRead};
 ghost use Rattle.pbf_file_laws.specs.Files.{FilesAreRead};
+ghost use Rattle.pbf_file_laws.specs.Tiling.{FieldsTile};
 
 /// A field is read whole, in any spelling and of each wire type.
 pub fn fields_are_read()
@@ -53,4 +54,9 @@ pub fn blocks_are_read()
 /// A file is read as its map, blob by blob.
 pub fn files_are_read()
     ensures { FilesAreRead }
+{}
+
+/// Of any bytes that are a message, each belongs to exactly one field.
+pub fn fields_tile()
+    ensures { FieldsTile }
 {}
