@@ -10,3 +10,4 @@ pub mod BlocksRead
 pub mod BlobsRead
 pub mod FilesRead
 pub mod Tiles
+pub mod ExampleShown

@@ -6,3 +6,4 @@ pub mod Ways
 pub mod Blocks
 pub mod Files
 pub mod Tiling
+pub mod Example

@@ -5,6 +5,7 @@ ghost use Rattle.pbf_file_laws.specs.Ways.{WaysAreRead};
 ghost use Rattle.pbf_file_laws.specs.Blocks.{GroupsAreRead, BlocksAreRead};
 ghost use Rattle.pbf_file_laws.specs.Files.{FilesAreRead};
 ghost use Rattle.pbf_file_laws.specs.Tiling.{FieldsTile};
+ghost use Rattle.pbf_file_laws.specs.Example.{FilesThereAre};
 
 /// A field is read whole, in any spelling and of each wire type.
 pub fn fields_are_read()
@@ -59,4 +60,9 @@ pub fn files_are_read()
 /// Of any bytes that are a message, each belongs to exactly one field.
 pub fn fields_tile()
     ensures { FieldsTile }
+{}
+
+/// A file that is so: two dense nodes and a way.
+pub fn files_there_are()
+    ensures { FilesThereAre }
 {}

@@ -7,5 +7,5 @@
 mod laws;
 
 pub use laws::{
-    fields_are_read, messages_are_read, scalars_are_read, lists_are_read, nodes_are_read, dense_nodes_are_read, ways_are_read, groups_are_read, blocks_are_read, files_are_read, fields_tile,
+    fields_are_read, messages_are_read, scalars_are_read, lists_are_read, nodes_are_read, dense_nodes_are_read, ways_are_read, groups_are_read, blocks_are_read, files_are_read, fields_tile, files_there_are,
 };
