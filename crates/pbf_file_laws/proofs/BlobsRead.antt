@@ -24,7 +24,7 @@ use Rattle.pbf_file_laws.specs.Reading.{Stands, IsValueAt, AreFields}
 use Rattle.pbf_file_laws.specs.Blocks.{plus, no_map}
 use Rattle.pbf_file_laws.specs.Files.{Held, held_in, last_held, is_data, is_type, IsRaw, IsKnown, IsHeader, Kind, IsNamed, BlobSays, IsBlob}
 use Rattle.pbf_file_laws.proofs.Runs.{message_read}
-use Rattle.pbf_file_laws.proofs.Says.{part_stands, scalar_read, or_else_assoc, none_behind}
+use Rattle.pbf_file_laws.proofs.Says.{no_bytes, and_true, part_stands, scalar_read, or_else_assoc, none_behind}
 use Rattle.pbf_file_laws.proofs.BlocksRead.{block_read}
 
 -- what stands in a front of a file stands in the file
@@ -149,17 +149,10 @@ features_by : (t : Bool) (bytes content : List ℕ) (spot : Spot) (spots : List 
 features_by true bytes content spot spots rest is part good more = rw (is, part, known_by content good.0) (more good.1)
 features_by false bytes content spot spots rest is part good more = rw is (more good)
 
-abbrev no_bytes : List (List ℕ)
-no_bytes = []
-
 no_feature_by : (t : Bool) (bytes : List ℕ) (spot : Spot) (spots : List Spot) (rest : List (List ℕ)) → is_bytes 4 spot ≡ false → AllByRecursion IsKnown ((if t then no_bytes else []) ++ rest) →
     (AllByRecursion IsKnown rest → features_in bytes spots ≡ Ok tt) → features_in bytes (spot ∷ spots) ≡ Ok tt
 no_feature_by true bytes spot spots rest is good more = rw is (more good)
 no_feature_by false bytes spot spots rest is good more = rw is (more good)
-
-and_true : (t : Bool) → (t && true) ≡ t
-and_true true = refl
-and_true false = refl
 
 features_step : (bytes : List ℕ) (n : ℕ) (value : Value) (spot : Spot) (spots : List Spot) (rest : List (List ℕ)) → spot.field.number ≡ n → IsValueAt bytes spot.field value → AllByRecursion IsKnown ((if n == 4 then content_in value else []) ++ rest) →
     (AllByRecursion IsKnown rest → features_in bytes spots ≡ Ok tt) → features_in bytes (spot ∷ spots) ≡ Ok tt

@@ -1,5 +1,5 @@
 -- Blocks are read: strings, scale and groups.
-use Rattle.std.proofs.Common.{◌≡◌, ◌∙◌, ℕ, ℤ, List, [], ◌∷◌, ◌++◌, length, take, IsUtf8, Option, Some, None, Ok, Bool, true, false, ◌&&◌, refl, sym, ap, append_assoc, append-nil}
+use Rattle.std.proofs.Common.{◌≡◌, ◌∙◌, ℕ, ℤ, List, [], ◌∷◌, ◌++◌, length, take, IsUtf8, Option, Some, None, Ok, Bool, true, false, refl, sym, ap, append_assoc, append-nil}
 use Rattle.std.specs.Prelude.{◌==◌, unwrap_or, if◌then◌else◌}
 use Rattle.std.specs.List.{AllByRecursion}
 use Rattle.std.specs.Int.{cast_signed, w64}
@@ -18,23 +18,16 @@ use Rattle.pbf_file_laws.specs.Saying.{scalar, content_in, contents, joined, Pai
 use Rattle.pbf_file_laws.specs.Reading.{Stands, IsValueAt, AreFields, IsRun}
 use Rattle.pbf_file_laws.specs.Blocks.{IsGroup, plus, together, IsGranularity, IsOffset, BlocksAreRead}
 use Rattle.pbf_file_laws.proofs.Runs.{message_read}
-use Rattle.pbf_file_laws.proofs.Says.{part_stands, scalar_read, joined_read}
+use Rattle.pbf_file_laws.proofs.Says.{no_bytes, and_true, part_stands, scalar_read, joined_read}
 use Rattle.pbf_file_laws.proofs.Numbers.{int32_read, int64_read}
 use Rattle.pbf_file_laws.proofs.GroupsRead.{group_read}
 
 text_there : (bytes : List ℕ) → IsUtf8 bytes → text_in bytes ≡ Some bytes
 text_there bytes h = rw (eq-eqb (utf8_valid_len bytes) (length bytes) (utf8_valid_len-IsUtf8 bytes h)) refl
 
-and_true : (t : Bool) → (t && true) ≡ t
-and_true true = refl
-and_true false = refl
-
 -- a field of bytes is one of a number where its number is that
 bytes_when : (number n : ℕ) (spot : Spot) → spot.field.number ≡ n → spot.field.wire ≡ 2 → is_bytes number spot ≡ (n == number)
 bytes_when number n spot e w = rw (e, w) (and_true (n == number))
-
-abbrev no_bytes : List (List ℕ)
-no_bytes = []
 
 text_by : (t : Bool) (table content : List ℕ) (pieces : List Piece) (spot : Spot) (spots : List Spot) (rest : List (List ℕ)) → is_bytes 1 spot ≡ t → Stands (take spot.field.end table) spot.field.start content →
     AllByRecursion IsUtf8 ((if t then content ∷ [] else []) ++ rest) → (AllByRecursion IsUtf8 rest → texts_in table pieces spots ≡ Ok rest) → texts_in table pieces (spot ∷ spots) ≡ Ok ((if t then content ∷ [] else []) ++ rest)

@@ -1,18 +1,17 @@
 -- The example is a file, and its map.
-use Rattle.std.proofs.Common.{◌≡◌, ◌∙◌, ℕ, ◌+◌, ◌*◌, ◌^◌, ◌<◌, ◌≤◌, ℤ, pos, ◌+ℤ◌, ◌*ℤ◌, ◌≤ℤ◌, nat_abs, List, [], ◌∷◌, ◌++◌, length, codes, Some, None, true, ltb, leb, inl, inr, refl, ap, arith}
-use Rattle.std.specs.List.{AllByRecursion}
-use Rattle.std.proofs.lemmas.Bool.{ltb-true, leb-true}
+use Rattle.std.proofs.Common.{◌≡◌, ℕ, ◌+◌, ◌*◌, ◌<◌, pos, List, [], ◌∷◌, length, codes, Some, true, ltb, inl, inr, refl, ap, arith}
+use Rattle.std.proofs.lemmas.Bool.{ltb-true}
 use Rattle.std.proofs.lemmas.Int.{ints}
 use Rattle.gh_base.specs.declared.map.OsmMap.{OsmMap}
 use Rattle.gh_base.specs.Places.{most_lat, most_lon}
 use Rattle.pbf_wire.specs.declared.messages.Scale.{Scale}
-use Rattle.pbf_file_laws.specs.Messages.{IsVarint, worth, Value, Entry, IsEntry, message_text, IsMessage}
+use Rattle.pbf_file_laws.specs.Messages.{IsVarint, Value, IsEntry, message_text}
 use Rattle.pbf_file_laws.specs.Saying.{IsPacked}
 use Rattle.pbf_file_laws.specs.Nodes.{IsCoordinate, IsDense}
 use Rattle.pbf_file_laws.specs.Ways.{IsWay}
-use Rattle.pbf_file_laws.specs.Blocks.{IsGroup, IsBlock, IsTable, no_map}
-use Rattle.pbf_file_laws.specs.Files.{Kind, IsNamed, IsRaw, IsHeader, BlobSays, IsBlob, IsFile}
-use Rattle.pbf_file_laws.specs.Example.{bytes_entry, number_entry, dense_entries, way_entries, nodes_group, ways_group, block_entries, header_entries, blob_of, blob_header, blob_bytes, example_file, example_nodes, example_way, example_map, FilesThereAre}
+use Rattle.pbf_file_laws.specs.Blocks.{IsGroup, IsBlock, no_map}
+use Rattle.pbf_file_laws.specs.Files.{Kind, IsNamed, IsRaw, IsHeader, BlobSays, IsBlob}
+use Rattle.pbf_file_laws.specs.Example.{bytes_entry, number_entry, dense_entries, way_entries, nodes_group, ways_group, block_entries, header_entries, blob_of, blob_header, blob_bytes, example_nodes, example_way, example_map, FilesThereAre}
 
 one : (g : ℕ) → g < 128 → IsVarint (g ∷ [])
 one g h = record { are = (h, tt); some = omega arith; few = omega arith; small = omega arith }

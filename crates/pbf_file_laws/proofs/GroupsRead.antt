@@ -25,7 +25,7 @@ use Rattle.pbf_file_laws.specs.Nodes.{IsNode, IsDense, DenseReads}
 use Rattle.pbf_file_laws.specs.Ways.{IsWay}
 use Rattle.pbf_file_laws.specs.Blocks.{AreDense, GroupsAreRead}
 use Rattle.pbf_file_laws.proofs.Runs.{message_read}
-use Rattle.pbf_file_laws.proofs.Says.{joined_read}
+use Rattle.pbf_file_laws.proofs.Says.{no_bytes, and_true, joined_read}
 use Rattle.pbf_file_laws.proofs.NodesRead.{node_read, dense_read}
 use Rattle.pbf_file_laws.proofs.WaysRead.{way_read}
 
@@ -76,16 +76,9 @@ none_left : (first : Bool) (all dense : List OsmNode) → Left first [] all dens
 none_left true all dense h = h
 none_left false all dense h = h
 
-and_true : (t : Bool) → (t && true) ≡ t
-and_true true = refl
-and_true false = refl
-
 split : (bytes : List ℕ) (pieces : List Piece) (first next : Bool) (spot : Spot) (spots : List Spot) (one : Group) → message_in bytes pieces first spot ≡ one → (first && not (is_bytes 2 spot)) ≡ next →
     messages_of bytes pieces first (spot ∷ spots) ≡ after one (messages_of bytes pieces next spots)
 split bytes pieces first next spot spots one here flag = rw (here, flag) refl
-
-abbrev no_bytes : List (List ℕ)
-no_bytes = []
 
 empty_by : (t : Bool) → (if t then no_bytes else []) ≡ no_bytes
 empty_by true = refl

@@ -61,8 +61,12 @@ none_behind (Some x) = refl
 pub scalar_read : (bytes : List ℕ) (number : ℕ) (spots : List Spot) (entries : List Entry) → AreFields bytes spots entries → scalar_of number None spots ≡ scalar number entries
 scalar_read bytes number spots entries are = scalar_from bytes number spots entries None are ∙ none_behind (scalar number entries)
 
-abbrev no_bytes : List (List ℕ)
+abbrev pub no_bytes : List (List ℕ)
 no_bytes = []
+
+pub and_true : (t : Bool) → (t && true) ≡ t
+and_true true = refl
+and_true false = refl
 
 abbrev no_pieces : List Piece
 no_pieces = []

@@ -1,15 +1,13 @@
 -- Where a message is a run of fields, they tile its bytes.
-use Rattle.std.proofs.Common.{◌≡◌, ◌≢◌, ◌∙◌, ℕ, zero, suc, ◌+◌, ◌-◌, ◌*◌, ◌/◌, ◌%◌, ◌^◌, ◌<◌, ◌≤◌, List, [], ◌∷◌, length, drop, take, Option, Some, None, Result, Ok, Err, Bool, true, false, ltb, leb, eqb, refl, sym, ap, subst, arith}
+use Rattle.std.proofs.Common.{◌≡◌, ℕ, zero, suc, ◌+◌, ◌-◌, ◌*◌, ◌/◌, ◌%◌, ◌^◌, ◌<◌, ◌≤◌, List, [], ◌∷◌, length, drop, take, Some, None, Result, Ok, Err, Bool, true, false, ltb, leb, eqb, refl, sym, ap, subst, arith}
 use Rattle.std.proofs.lemmas.Bool.Decides.{nat_tests}
-use Rattle.std.proofs.lemmas.Bool.{eqb-true, eqb-false}
+use Rattle.std.proofs.lemmas.Bool.{eqb-true}
 use Rattle.pbf_wire.specs.declared.wire.WireKind.{WireKind}
-use Rattle.pbf_wire.specs.declared.wire.WireKind.TheVariants.{End, Zero, Wire}
+use Rattle.pbf_wire.specs.declared.wire.WireKind.TheVariants.{End}
 use Rattle.pbf_wire.specs.declared.wire.Field.{Field}
-use Rattle.pbf_wire.specs.declared.fields.Spot.{Spot}
-use Rattle.pbf_wire.specs.declared.fields.Run.{Run}
-use Rattle.pbf_wire.specs.Wire.{◌>>=◌, varint_in, varint_front, varint_at, little_endian, value_of, behind_key, field_of, at_byte}
-use Rattle.pbf_wire.specs.Runs.{with_field, run_from, run_of}
-use Rattle.pbf_file_laws.specs.Tiling.{IsVarintAt, IsFramed, IsTile, Tile, FieldsTile}
+use Rattle.pbf_wire.specs.Wire.{◌>>=◌, varint_in, varint_front, varint_at, little_endian, value_of, behind_key, field_of}
+use Rattle.pbf_wire.specs.Runs.{run_from, run_of}
+use Rattle.pbf_file_laws.specs.Tiling.{IsFramed, IsTile, Tile, FieldsTile}
 
 -- the value of the first step, where both gave one
 record First {A B K : Type 0} (r : Result A K) (f : A → Result B K) (y : B) : Type 0 where

@@ -1,5 +1,5 @@
 -- The fields of a message tile its bytes: each byte of a message that is read belongs to exactly one field.
-use Rattle.std.specs.Prelude.{◌≡◌, ◌⊎◌, ℕ, ◌+◌, ◌-◌, ◌*◌, ◌<◌, ◌≤◌, List, [], ◌∷◌, length, Some, None, Ok}
+use Rattle.std.specs.Prelude.{◌≡◌, ℕ, ◌+◌, ◌-◌, ◌*◌, ◌<◌, ◌≤◌, List, [], ◌∷◌, length, None, Ok}
 use Rattle.pbf_wire.specs.declared.wire.Field.{Field}
 use Rattle.pbf_wire.specs.declared.fields.Spot.{Spot}
 use Rattle.pbf_wire.specs.Wire.{varint_at}
