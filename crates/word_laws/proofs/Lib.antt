@@ -1,0 +1,5 @@
+pub mod Rules
+pub mod Walks
+pub mod Orders
+pub mod Found
+pub mod Lines
