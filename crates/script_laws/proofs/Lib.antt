@@ -6,3 +6,4 @@ pub mod HeaderLines
 pub mod Newlines
 pub mod Scripts
 pub mod SamplesShown
+pub mod Told

@@ -66,7 +66,7 @@ place_graphic (At point) h =
 
 -- ---- an edge
 
-front_of : (ds : List ℕ) (b : ℕ) → (take (length (ds ++ b ∷ []) - 1) (ds ++ b ∷ []) ≡ ds) × (drop (length (ds ++ b ∷ []) - 1) (ds ++ b ∷ []) ≡ b ∷ [])
+pub front_of : (ds : List ℕ) (b : ℕ) → (take (length (ds ++ b ∷ []) - 1) (ds ++ b ∷ []) ≡ ds) × (drop (length (ds ++ b ∷ []) - 1) (ds ++ b ∷ []) ≡ b ∷ [])
 front_of ds b =
     let e : length (ds ++ b ∷ []) - 1 ≡ length ds = omega (arith, length-append ds (b ∷ [])) in
     rw e (take-append_seam ds (b ∷ []), drop-append_seam ds (b ∷ []))

@@ -39,7 +39,7 @@ pub is_valid : (line : List ℕ) → IsUtf8 line → eqb (utf8_valid_len line) (
 is_valid line h = eq-eqb (utf8_valid_len line) (length line) (utf8_valid_len-IsUtf8 line h)
 
 -- a word is made of such bytes, by computing
-abbrev all_graphic : List ℕ → Bool
+abbrev pub all_graphic : List ℕ → Bool
 all_graphic [] = true
 all_graphic (b ∷ bytes) = ltb 32 b && (ltb b 128 && all_graphic bytes)
 

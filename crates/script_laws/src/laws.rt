@@ -1,5 +1,6 @@
 //! The laws. Each function does nothing: what it ensures is the law.
 ghost use Rattle.script_laws.specs.Samples.{RepliesAreSo, EntriesAreSo};
+ghost use Rattle.script_laws.specs.Telling.{LinesTellReplies};
 ghost use Rattle.script_laws.specs.Laws.{CommandsAreRead, ProfilesAreRead, JournalIsRead, ActorsAreRead, SyncIsRead, ScriptsAreRead};
 
 /// The words of a command behind an actor's name say this command of this actor.
@@ -36,6 +37,12 @@ pub fn scripts_are_read()
 /// Each reply has its words, behind its actor, its number and the number of entries.
 pub fn replies_are_so()
     ensures { RepliesAreSo }
+{}
+
+/// The line of a reply tells the actor, the command's number, the number of entries and the reply: two of which one
+/// differs have different lines.
+pub fn lines_tell_replies()
+    ensures { LinesTellReplies }
 {}
 
 /// Each entry has its words, behind its place, its actor and its number.
