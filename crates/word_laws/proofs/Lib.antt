@@ -3,3 +3,4 @@ pub mod Walks
 pub mod Orders
 pub mod Found
 pub mod Lines
+pub mod SamplesRefused

@@ -6,4 +6,4 @@
 
 mod laws;
 
-pub use laws::lines_are_read;
+pub use laws::{lines_are_read, lines_are_refused};
