@@ -46,7 +46,7 @@ formless =
     codes "serve --map= --form plain" ∷ codes "serve --map  --form plain" ∷ codes "serve --form plain --map" ∷
     codes "serve --map m --form=" ∷ codes "serve --map m --form" ∷ codes "serve --map m --form Plain" ∷
     codes "roads --map m --form osm" ∷ codes "check --map m --form plainer" ∷ codes "convert --map m --form plain --to xml" ∷
-    codes "serve --map -m --form plain" ∷ codes "serve --map --form plain" ∷
+    codes "serve --map -m --form plain" ∷ codes "serve --map - --form plain" ∷ codes "serve --map -- --form plain" ∷ codes "serve --map --form plain" ∷
     codes "generate --size 1" ∷ codes "generate --size 301" ∷ codes "generate --size 05" ∷ codes "generate --size +5" ∷
     codes "generate --size -5" ∷ codes "generate --size=-5" ∷ codes "generate --size 5.0" ∷ codes "generate --size five" ∷ codes "generate --size=" ∷
     codes "prep --map m --form plain --count 0" ∷ codes "prep --map m --form plain --count 17" ∷ codes "prep --map m --form plain --count 04" ∷
