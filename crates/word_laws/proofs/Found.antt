@@ -1,5 +1,5 @@
 -- The options of a line are what is found among its words.
-use Rattle.std.proofs.Common.{◌≡◌, ◌∙◌, ℕ, List, [], ◌∷◌, ◌++◌, map, cond, Bool, true, false, ◌||◌, ◌&&◌, not, Option, Some, None, is_some, refl, ap, ap₂, sym, append-nil}
+use Rattle.std.proofs.Common.{◌≡◌, ◌∙◌, List, [], ◌∷◌, ◌++◌, map, cond, Bool, true, false, ◌||◌, ◌&&◌, not, Some, None, is_some, refl, ap, ap₂, sym, append-nil}
 use Rattle.std.specs.Prelude.{if◌then◌else◌, flat_map}
 use Rattle.std.specs.List.{list_any, find, fold}
 use Rattle.std.specs.Option.{option_map_or}
@@ -9,12 +9,12 @@ use Rattle.clap.specs.Faults.{built_fault, check_fault, default_fault, defaults_
 use Rattle.clap.specs.Kinds.{Kinds, or_else}
 use Rattle.clap.specs.Simple.{App, built, entered, matches_of, names_of}
 use Rattle.clap.specs.Takes.{is_given}
-use Rattle.clap.specs.Walk.{Row, Rule, Text, Walk, finished, has_row, nothing_held, rows_after, settled, walk, walk_from, walked, with_default}
+use Rattle.clap.specs.Walk.{Row, Rule, Text, Walk, finished, has_row, nothing_held, rows_after, settled, walk, walked, with_default}
 use Rattle.clap.specs.declared.error.kind.ErrorKind.TheVariants.{MissingRequiredArgument}
 use Rattle.gh_words.specs.Words.{found_in, if_free, is_dashes}
 use Rattle.word_laws.specs.Writing.{Named, Spelled, words_of, spelling}
-use Rattle.word_laws.proofs.Rules.{EachName, at_name, built_option, is_named, no_default, no_defaults, row, rules_of}
-use Rattle.word_laws.proofs.Walks.{Ends, Fits, IsOptionName, IsValueWord, all_rows, settle_free, settled_is, shape, value_word, walk_at, walks}
+use Rattle.word_laws.proofs.Rules.{EachName, at_name, built_option, no_default, no_defaults, row, rules_of}
+use Rattle.word_laws.proofs.Walks.{Ends, Fits, IsOptionName, settle_free, settled_is, shape, value_word, walk_at, walks}
 use Rattle.word_laws.proofs.Orders.{found_by}
 
 -- ---- no word is nothing but minus signs

@@ -1,5 +1,5 @@
 -- Each command's line is read as it.
-use Rattle.std.proofs.Common.{◌≡◌, ◌≢◌, ◌∙◌, ℕ, zero, suc, ◌^◌, ◌<◌, ◌≤◌, List, [], ◌∷◌, ◌++◌, map, Bool, true, false, ◌&&◌, Option, Some, None, leb, refl, ap, ap₂, sym, arith, le-leb}
+use Rattle.std.proofs.Common.{◌≡◌, ◌≢◌, ◌∙◌, ℕ, zero, suc, ◌≤◌, List, [], ◌∷◌, map, Bool, false, Option, Some, None, refl, ap, ap₂, arith, le-leb}
 use Rattle.std.specs.Prelude.{if◌then◌else◌, codes, decimal, flat_map}
 use Rattle.std.specs.List.{All}
 use Rattle.std.specs.List.Sorted.{IsPermutation}
@@ -9,18 +9,18 @@ use Rattle.std.proofs.lemmas.List.Elements.{All-head, All-tail}
 use Rattle.std.proofs.lemmas.List.Sorted.{All-permutation, IsPermutation-sym}
 use Rattle.clap.specs.Simple.{App, built}
 use Rattle.clap.specs.Walk.{Row, Text, first_of}
-use Rattle.gh_base.specs.Decimals.{◌>>=◌, natural_of}
+use Rattle.gh_base.specs.Decimals.{◌>>=◌}
 use Rattle.gh_base.specs.declared.kinds.Form.{Form}
 use Rattle.gh_base.specs.declared.kinds.Form.TheVariants.{Plain, Pbf}
 use Rattle.gh_words.specs.declared.request.Request.{Request}
 use Rattle.gh_words.specs.declared.request.Request.TheVariants as request
-use Rattle.gh_words.specs.Words.{Asked, CountedMap, MapAt, Both, Check, Convert, Generate, Prep, Roads, Serve, Turns, asked, asked_by, begins_with_zero, convert_app, convert_asked, convert_in, counted_app, counted_in, counted_words, form_in, form_of, found_in, generate_app, generate_asked, generate_in, is_dashes, map_app, map_at_in, map_in, map_words, name_of, number_in, number_of, within}
+use Rattle.gh_words.specs.Words.{CountedMap, MapAt, Both, Check, Convert, Generate, Prep, Roads, Serve, Turns, asked, asked_by, convert_app, convert_asked, convert_in, counted_app, counted_in, counted_words, form_in, form_of, found_in, generate_app, generate_asked, generate_in, is_dashes, map_app, map_at_in, map_in, map_words, name_of, number_in, number_of, within}
 use Rattle.gh_words.proofs.Spellings.{reads}
 use Rattle.word_laws.specs.Writing.{IsAskable, IsLineOf, IsNumberFrom, IsSpellable, Named, Spelled, command_of, form_word, option, options_of, words_of}
-use Rattle.word_laws.proofs.Rules.{EachName, first_of_rows, row}
+use Rattle.word_laws.proofs.Rules.{first_of_rows, row}
 use Rattle.word_laws.proofs.Walks.{IsOptionName, same_name}
-use Rattle.word_laws.proofs.Orders.{EachOption, IsAsked, IsOnly, fits, found_by, found_in_order, times}
-use Rattle.word_laws.proofs.Found.{IsFound, built_app, found_so}
+use Rattle.word_laws.proofs.Orders.{IsAsked, fits, found_by, found_in_order}
+use Rattle.word_laws.proofs.Found.{built_app, found_so}
 
 -- ---- values
 

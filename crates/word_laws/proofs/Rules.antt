@@ -6,9 +6,7 @@ use Rattle.std.specs.Prelude.{slice_get}
 use Rattle.std.specs.Str.{bytes_eq}
 use Rattle.std.proofs.lemmas.Slice.Eq.{bytes_eq-Decides}
 use Rattle.clap.specs.Walk.{Row, Rule, Text, arg_by_id, arg_by_index, arg_by_long, arg_by_short, at_row, first_of, has_row, with_default}
-use Rattle.clap.specs.Simple.{filled, filled_from}
-use Rattle.clap.specs.Faults.{defaults_fault}
-use Rattle.clap.specs.Takes.{is_given}
+use Rattle.clap.specs.Simple.{filled}
 use Rattle.clap.specs.declared.builder.value_parser.Reading.TheVariants as reading
 use Rattle.clap.specs.declared.parser.matches.ValueSource.TheVariants.{CommandLine}
 use Rattle.gh_words.specs.Words.{option_of}
