@@ -1,0 +1,2 @@
+pub mod InSegments
+pub mod WordBytes

@@ -1,0 +1,102 @@
+//! The bytes, as callers see them.
+ghost use Rattle.std.specs.Prelude.{◌≡◌, ◌≤◌, ◌+◌, ◌-◌, ◌%◌, ◌^◌, [], ◌++◌, length, max, replicate, slice_range, OnOk, OnErr};
+ghost use Rattle.std.specs.Int.{w16, w32, to_le_bytes, from_le_bytes, next_multiple_of};
+ghost use Rattle.data_access.specs.Bytes.{bytes_with};
+
+use crate::words::Words;
+use gh_base::NoMemory;
+use std::alloc::Global;
+use std::marker::Model;
+
+/// How many bytes a segment has.
+const SEGMENT_BYTES: u64 = 1_048_576;
+
+/// Bytes in segments. Contracts see the list of the bytes; a word is that of its bytes, the lowest first.
+#[derive(Drop)]
+pub struct Segments {
+    words: Words,
+}
+
+impl Model for Segments {
+    ghost use Rattle.std.specs.Prelude.{ℕ, List};
+
+    ghost Value = { List ℕ };
+
+    ghost use Rattle.data_access.specs.Bytes.{bytes_of};
+
+    ghost view = { λ a. bytes_of a.words };
+}
+
+impl Segments {
+    /// No bytes. It takes no memory.
+    pub fn new(alloc: Global) -> Segments
+        ensures { result ≡ [] }
+    {
+        Segments {
+            words: Words::new(alloc),
+        }
+    }
+
+    /// Sees that there are at least so many bytes, in whole segments. New bytes are 0. After `NoMemory`
+    /// all is as before.
+    pub fn reserve_bytes(&mut self, bytes: u64) -> Result<(), NoMemory>
+        requires { bytes ≤ 2 ^ 63 }
+        ensures ok { OnOk result (self.new ≡ self.old ++ replicate (length self.new - length self.old) 0) }
+        ensures len { OnOk result (length self.new ≡ max (length self.old) (next_multiple_of bytes 1048576)) }
+        ensures err { OnErr result (self.new ≡ self.old) }
+    {
+        self.words.grow(bytes.div_ceil(SEGMENT_BYTES) as usize)?;
+        Ok(())
+    }
+
+    pub fn len(&self) -> u64
+        ensures { result ≡ length self.now }
+    {
+        4 * self.words.len()
+    }
+
+    pub fn get_u16(&self, at: u64) -> u16
+        requires aligned { at % 2 ≡ 0 }
+        requires inside { at + 2 ≤ length self.now }
+        ensures { result ≡ from_le_bytes w16 (slice_range self.now at (at + 2)) }
+    {
+        let word = self.words.get((at / 4) as usize);
+        if at % 4 == 0 {
+            (word % 65_536) as u16
+        } else {
+            (word / 65_536) as u16
+        }
+    }
+
+    pub fn set_u16(&mut self, at: u64, value: u16)
+        requires aligned { at % 2 ≡ 0 }
+        requires inside { at + 2 ≤ length self.old }
+        ensures { self.new ≡ bytes_with self.old at (to_le_bytes w16 value) }
+    {
+        let index = (at / 4) as usize;
+        let word = self.words.get(index);
+        let half = u32::from(value);
+        let changed = if at % 4 == 0 {
+            word / 65_536 * 65_536 + half
+        } else {
+            half * 65_536 + word % 65_536
+        };
+        self.words.set(index, changed);
+    }
+
+    pub fn get_u32(&self, at: u64) -> u32
+        requires aligned { at % 4 ≡ 0 }
+        requires inside { at + 4 ≤ length self.now }
+        ensures { result ≡ from_le_bytes w32 (slice_range self.now at (at + 4)) }
+    {
+        self.words.get((at / 4) as usize)
+    }
+
+    pub fn set_u32(&mut self, at: u64, value: u32)
+        requires aligned { at % 4 ≡ 0 }
+        requires inside { at + 4 ≤ length self.old }
+        ensures { self.new ≡ bytes_with self.old at (to_le_bytes w32 value) }
+    {
+        self.words.set((at / 4) as usize, value);
+    }
+}
