@@ -1,2 +1,3 @@
 pub mod InSegments
+pub mod OtherBytes
 pub mod WordBytes

@@ -1,7 +1,7 @@
 //! The bytes, as callers see them.
-ghost use Rattle.std.specs.Prelude.{◌≡◌, ◌≤◌, ◌+◌, ◌-◌, ◌%◌, ◌^◌, [], ◌++◌, length, max, replicate, slice_range, OnOk, OnErr};
-ghost use Rattle.std.specs.Int.{w16, w32, to_le_bytes, from_le_bytes, next_multiple_of};
-ghost use Rattle.data_access.specs.Bytes.{bytes_with};
+ghost use Rattle.std.specs.Prelude.{◌≡◌, ◌≤◌, ◌+◌, ◌-◌, ◌%◌, ◌^◌, ◌⊎◌, ℕ, [], ◌++◌, length, max, replicate, OnOk, OnErr};
+ghost use Rattle.std.specs.Int.{w16, w32, to_le_bytes, next_multiple_of};
+ghost use Rattle.data_access.specs.Bytes.{bytes_with, u16_at, u32_at};
 
 use crate::words::Words;
 use gh_base::NoMemory;
@@ -58,7 +58,7 @@ impl Segments {
     pub fn get_u16(&self, at: u64) -> u16
         requires aligned { at % 2 ≡ 0 }
         requires inside { at + 2 ≤ length self.now }
-        ensures { result ≡ from_le_bytes w16 (slice_range self.now at (at + 2)) }
+        ensures { result ≡ u16_at self.now at }
     {
         let word = self.words.get((at / 4) as usize);
         if at % 4 == 0 {
@@ -71,7 +71,9 @@ impl Segments {
     pub fn set_u16(&mut self, at: u64, value: u16)
         requires aligned { at % 2 ≡ 0 }
         requires inside { at + 2 ≤ length self.old }
-        ensures { self.new ≡ bytes_with self.old at (to_le_bytes w16 value) }
+        ensures bytes { self.new ≡ bytes_with self.old at (to_le_bytes w16 value) }
+        ensures read { u16_at self.new at ≡ value }
+        ensures others { (other : ℕ) → (other + 2 ≤ at) ⊎ (at + 2 ≤ other) → u16_at self.new other ≡ u16_at self.old other }
     {
         let index = (at / 4) as usize;
         let word = self.words.get(index);
@@ -87,7 +89,7 @@ impl Segments {
     pub fn get_u32(&self, at: u64) -> u32
         requires aligned { at % 4 ≡ 0 }
         requires inside { at + 4 ≤ length self.now }
-        ensures { result ≡ from_le_bytes w32 (slice_range self.now at (at + 4)) }
+        ensures { result ≡ u32_at self.now at }
     {
         self.words.get((at / 4) as usize)
     }
@@ -95,7 +97,9 @@ impl Segments {
     pub fn set_u32(&mut self, at: u64, value: u32)
         requires aligned { at % 4 ≡ 0 }
         requires inside { at + 4 ≤ length self.old }
-        ensures { self.new ≡ bytes_with self.old at (to_le_bytes w32 value) }
+        ensures bytes { self.new ≡ bytes_with self.old at (to_le_bytes w32 value) }
+        ensures read { u32_at self.new at ≡ value }
+        ensures others { (other : ℕ) → (other + 4 ≤ at) ⊎ (at + 4 ≤ other) → u32_at self.new other ≡ u32_at self.old other }
     {
         self.words.set((at / 4) as usize, value);
     }

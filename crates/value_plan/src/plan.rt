@@ -61,6 +61,7 @@ impl Plan {
         ensures ok { OnOk result (self.new ≡ self.old ++ behind self.old bits directed ∷ []) }
         ensures slot { IfOk result (λ slot. slot ≡ behind self.old bits directed) }
         ensures apart { IfOk result (λ slot. All (λ other. AreApart other slot) self.old) }
+        ensures sum { OnOk result (bits_of self.new ≡ bits_of self.old + width_of bits directed) }
         ensures no_bits { (result ≡ Err PlanFault.NoBits) ↔ (128 < bits_of self.old + width_of bits directed) }
         ensures err { OnErr result (self.new ≡ self.old) }
     {
