@@ -1,3 +1,4 @@
 pub mod Bits
+pub mod Packing
 pub mod SideBySide
 pub mod Values

@@ -8,9 +8,12 @@
 
 mod faults;
 mod numbers;
+mod packed;
 mod plan;
+mod road;
 mod slots;
 
 pub use faults::PlanFault;
 pub use plan::Plan;
+pub use road::{put_values, road_plan};
 pub use slots::{Slot, get, set};
