@@ -4,7 +4,6 @@ use Rattle.std.specs.Int.{from_bool}
 use Rattle.std.proofs.lemmas.Bool.{cases_lt}
 use Rattle.std.proofs.lemmas.Nat.{pow-add, pow_below, shr-shr, shr_high, mod_low, mul-add-lt, shl_whole}
 use Rattle.encoded_values.specs.Values.{TwoValues, AreTwoInRange}
-use Rattle.value_plan.specs.Slots.{number_of}
 use Rattle.value_plan.specs.Packing.{packed_onto, road_items, road_number}
 use Rattle.value_plan.specs.Road.{HoldsAlong}
 
@@ -57,7 +56,7 @@ flag_fits : (b : Bool) → from_bool b < 2 ^ 1
 flag_fits true = omega arith
 flag_fits false = omega arith
 
-module _ (word : ℕ → ℕ) (t : TwoValues) (r : AreTwoInRange t) (e : number_of word ≡ road_number t) where
+module _ (number : ℕ) (t : TwoValues) (r : AreTwoInRange t) (e : number ≡ road_number t) where
   fits : Fit (road_items t)
   fits = (
     r.forward.road_class,
@@ -100,10 +99,10 @@ module _ (word : ℕ → ℕ) (t : TwoValues) (r : AreTwoInRange t) (e : number_
     ),
   )
 
-  held : (k : ℕ) → k < 19 → number_of word / 2 ^ bits_before (road_items t) k % 2 ^ (get_or (road_items t) k (0, 0)).0 ≡ (get_or (road_items t) k (0, 0)).1
+  held : (k : ℕ) → k < 19 → number / 2 ^ bits_before (road_items t) k % 2 ^ (get_or (road_items t) k (0, 0)).0 ≡ (get_or (road_items t) k (0, 0)).1
   held k l = ap (λ (n : ℕ). n / 2 ^ bits_before (road_items t) k % 2 ^ (get_or (road_items t) k (0, 0)).0) e ∙ packed_at (road_items t) 0 k (0, 0) fits l
 
-  pub holds_forward : HoldsAlong word t.forward false
+  pub holds_forward : HoldsAlong number t.forward false
   holds_forward = record {
     road_class = held 0 (omega arith);
     road_class_link = held 1 (omega arith);
@@ -120,7 +119,7 @@ module _ (word : ℕ → ℕ) (t : TwoValues) (r : AreTwoInRange t) (e : number_
     foot_speed = held 17 (omega arith);
   }
 
-  pub holds_reverse : HoldsAlong word t.reverse true
+  pub holds_reverse : HoldsAlong number t.reverse true
   holds_reverse = record {
     road_class = held 0 (omega arith) ∙ r.alike.road_class;
     road_class_link = held 1 (omega arith) ∙ ap from_bool r.alike.road_class_link;

@@ -51,6 +51,9 @@ first_in slot reverse = if slot.directed && reverse then slot.first + slot.bits 
 abbrev pub number_of : (ℕ → ℕ) → ℕ
 number_of word = word 0 + 2 ^ 32 * word 1 + 2 ^ 64 * word 2 + 2 ^ 96 * word 3
 
--- the value of a slot in a direction
+-- the value of a slot in a direction, of so many bits of a number, and of an edge's words
+abbrev pub value_of : ℕ → Place → Bool → ℕ
+value_of number slot reverse = number / 2 ^ first_in slot reverse % 2 ^ slot.bits
+
 abbrev pub value_in : (ℕ → ℕ) → Place → Bool → ℕ
-value_in word slot reverse = number_of word / 2 ^ first_in slot reverse % 2 ^ slot.bits
+value_in word slot reverse = value_of (number_of word) slot reverse

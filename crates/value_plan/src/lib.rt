@@ -12,8 +12,10 @@ mod packed;
 mod plan;
 mod road;
 mod slots;
+mod taken;
 
 pub use faults::PlanFault;
 pub use plan::Plan;
 pub use road::{put_values, road_plan};
 pub use slots::{Slot, get, set};
+pub use taken::take_values;

@@ -1,4 +1,4 @@
-use Rattle.std.proofs.Common.{◌≡◌, ℕ, ◌+◌, ◌*◌, ◌^◌, ◌<◌, sym, ap, ◌∙◌, subst}
+use Rattle.std.proofs.Common.{ℕ, ◌+◌, ◌*◌, ◌^◌, ◌<◌, sym, ap, ◌∙◌, subst}
 use Rattle.value_plan.proofs.Packing.{above_fits, in_128, moved, turned}
 use Rattle.value_plan.proofs.packed.Packed.above.Goals as goal
 
