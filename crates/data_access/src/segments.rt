@@ -1,7 +1,7 @@
 //! The bytes, as callers see them.
-ghost use Rattle.std.specs.Prelude.{◌≡◌, ◌≤◌, ◌+◌, ◌-◌, ◌%◌, ◌^◌, ◌⊎◌, ℕ, [], ◌++◌, length, max, replicate, OnOk, OnErr};
+ghost use Rattle.std.specs.Prelude.{◌≡◌, ◌≤◌, ◌+◌, ◌%◌, ◌^◌, ◌⊎◌, ℕ, [], length, max, OnOk, OnErr};
 ghost use Rattle.std.specs.Int.{w16, w32, to_le_bytes, next_multiple_of};
-ghost use Rattle.data_access.specs.Bytes.{bytes_with, u16_at, u32_at};
+ghost use Rattle.data_access.specs.Bytes.{GrowsByZeros, bytes_with, u16_at, u32_at};
 
 use crate::words::Words;
 use gh_base::NoMemory;
@@ -11,7 +11,8 @@ use std::marker::Model;
 /// How many bytes a segment has.
 const SEGMENT_BYTES: u64 = 1_048_576;
 
-/// Bytes in segments. Contracts see the list of the bytes; a word is that of its bytes, the lowest first.
+/// Bytes in segments. Contracts see the list of the bytes; a word is that of its bytes, the lowest
+/// first.
 #[derive(Drop)]
 pub struct Segments {
     words: Words,
@@ -37,12 +38,13 @@ impl Segments {
         }
     }
 
-    /// Sees that there are at least so many bytes, in whole segments. New bytes are 0. After `NoMemory`
-    /// all is as before.
+    /// Sees that there are at least so many bytes, in whole segments of 2^20. New bytes are 0. After
+    /// `NoMemory` all is as before.
     pub fn reserve_bytes(&mut self, bytes: u64) -> Result<(), NoMemory>
         requires { bytes ≤ 2 ^ 63 }
-        ensures ok { OnOk result (self.new ≡ self.old ++ replicate (length self.new - length self.old) 0) }
-        ensures len { OnOk result (length self.new ≡ max (length self.old) (next_multiple_of bytes 1048576)) }
+        ensures ok { OnOk result (GrowsByZeros self.old self.new) }
+        ensures len { OnOk result
+            (length self.new ≡ max (length self.old) (next_multiple_of bytes 1048576)) }
         ensures err { OnErr result (self.new ≡ self.old) }
     {
         self.words.grow(bytes.div_ceil(SEGMENT_BYTES) as usize)?;
@@ -73,7 +75,8 @@ impl Segments {
         requires inside { at + 2 ≤ length self.old }
         ensures bytes { self.new ≡ bytes_with self.old at (to_le_bytes w16 value) }
         ensures read { u16_at self.new at ≡ value }
-        ensures others { (other : ℕ) → (other + 2 ≤ at) ⊎ (at + 2 ≤ other) → u16_at self.new other ≡ u16_at self.old other }
+        ensures others { (other : ℕ) → (other + 2 ≤ at) ⊎ (at + 2 ≤ other)
+            → u16_at self.new other ≡ u16_at self.old other }
     {
         let index = (at / 4) as usize;
         let word = self.words.get(index);
@@ -99,7 +102,8 @@ impl Segments {
         requires inside { at + 4 ≤ length self.old }
         ensures bytes { self.new ≡ bytes_with self.old at (to_le_bytes w32 value) }
         ensures read { u32_at self.new at ≡ value }
-        ensures others { (other : ℕ) → (other + 4 ≤ at) ⊎ (at + 4 ≤ other) → u32_at self.new other ≡ u32_at self.old other }
+        ensures others { (other : ℕ) → (other + 4 ≤ at) ⊎ (at + 4 ≤ other)
+            → u32_at self.new other ≡ u32_at self.old other }
     {
         self.words.set((at / 4) as usize, value);
     }

@@ -1,5 +1,7 @@
 //! A list of words that never moves: it grows by whole segments.
-ghost use Rattle.std.specs.Prelude.{◌≡◌, ◌<◌, ◌≤◌, ◌+◌, ◌-◌, ◌*◌, ◌^◌, [], ◌++◌, length, max, replicate, slice_index, slice_set, All, IfOk, OnOk, OnErr};
+ghost use Rattle.std.specs.Prelude.{◌≡◌, ◌<◌, ◌≤◌, ◌*◌, ◌^◌, [], length, max, slice_index, slice_set, All, IfOk, OnOk, OnErr};
+ghost use Rattle.data_access.specs.Bytes.{GrowsByZeros};
+ghost use Rattle.data_access.specs.Words.{IsZero};
 
 use gh_base::NoMemory;
 use std::alloc::Global;
@@ -22,8 +24,8 @@ impl Model for Segment {
     ghost view = { λ segment. segment.words.items };
 }
 
-/// Words in segments. Contracts see the list of the words. A list that grows copies none of them, only
-/// the pointers to its segments.
+/// Words in segments. Contracts see the list of the words. A list that grows copies none of them,
+/// only the pointers to its segments.
 #[derive(Drop)]
 pub struct Words {
     alloc: Global,
@@ -76,10 +78,11 @@ impl Words {
         segment.words[index % SEGMENT_WORDS] = word;
     }
 
-    /// Sees that there are at least so many segments. New words are 0. After `NoMemory` all is as before.
+    /// Sees that there are at least so many segments. New words are 0. After `NoMemory` all is as
+    /// before.
     pub fn grow(&mut self, segments: usize) -> Result<(), NoMemory>
         requires { segments ≤ 2 ^ 43 }
-        ensures ok { OnOk result (self.new ≡ self.old ++ replicate (length self.new - length self.old) 0) }
+        ensures ok { OnOk result (GrowsByZeros self.old self.new) }
         ensures len { OnOk result (length self.new ≡ max (length self.old) (262144 * segments)) }
         ensures err { OnErr result (self.new ≡ self.old) }
     {
@@ -93,7 +96,7 @@ impl Words {
 fn zero_segments(alloc: Global, count: usize) -> Result<Vec<Segment>, NoMemory>
     ensures count { IfOk result (λ segments. length segments.items ≡ count) }
     ensures long { IfOk result (λ segments. All (λ words. length words ≡ 262144) segments.items) }
-    ensures zero { IfOk result (λ segments. All (λ words. All (λ word. word ≡ 0) words) segments.items) }
+    ensures zero { IfOk result (λ segments. All IsZero segments.items) }
 {
     let mut segments = Vec::new(alloc);
     for _ in 0..count {
@@ -105,7 +108,7 @@ fn zero_segments(alloc: Global, count: usize) -> Result<Vec<Segment>, NoMemory>
 /// A segment of so many words 0.
 fn zero_segment(alloc: Global, count: usize) -> Result<Segment, NoMemory>
     ensures long { IfOk result (λ words. length words ≡ count) }
-    ensures zero { IfOk result (λ words. All (λ word. word ≡ 0) words) }
+    ensures zero { IfOk result IsZero }
 {
     Ok(Segment {
         words: vec![in alloc; 0; count]?,

@@ -1,10 +1,12 @@
 //! Two edges of four words, and plans over them.
-ghost use Rattle.std.specs.Prelude.{◌<◌, ◌^◌};
+ghost use Rattle.std.specs.Prelude.{◌≡◌, ◌<◌, ◌^◌, if◌then◌else◌};
 
+use encoded_values::{
+    DirValues, EdgeValues, MISSING_MAX_SPEED, RoadClass, Surface, Toll, both_are_in_range,
+};
 use gh_base::{EdgeId, EdgeWords};
-use std::alloc::Global;
 use std::test::Fail;
-use value_plan::{Plan, PlanFault, Slot, get, set};
+use value_plan::{Plan, PlanFault, Slot, get, put_values, road_plan, set, take_values};
 
 #[derive(Drop)]
 struct TwoEdges {
@@ -63,23 +65,78 @@ fn a_value_is_read_across_words_and_in_its_direction(rt: HostRuntime) -> Result<
     Ok(())
 }
 
-/// The plan of a road's values: 77 bits.
-fn road_plan(alloc: Global) -> Result<Plan, PlanFault> {
-    let mut plan = Plan::new(alloc);
-    plan.add("road_class", 4, false)?;
-    plan.add("road_class_link", 1, false)?;
-    plan.add("roundabout", 1, false)?;
-    plan.add("surface", 4, false)?;
-    plan.add("toll", 2, false)?;
-    plan.add("lanes", 3, false)?;
-    plan.add("max_speed", 8, false)?;
-    plan.add("car_access", 1, true)?;
-    plan.add("bike_access", 1, true)?;
-    plan.add("foot_access", 1, true)?;
-    plan.add("car_speed", 8, true)?;
-    plan.add("bike_speed", 8, true)?;
-    plan.add("foot_speed", 8, true)?;
-    Ok(plan)
+/// A street of sand that cars may only pass forward, at 50 km/h.
+fn street() -> EdgeValues {
+    let forward = DirValues {
+        road_class: RoadClass::Secondary as u8,
+        road_class_link: true,
+        roundabout: false,
+        surface: Surface::Sand as u8,
+        toll: Toll::No as u8,
+        lanes: 7,
+        max_speed: MISSING_MAX_SPEED,
+        car_access: true,
+        bike_access: true,
+        foot_access: true,
+        car_speed: 50,
+        bike_speed: 18,
+        foot_speed: 5,
+    };
+    let reverse = DirValues {
+        road_class: RoadClass::Secondary as u8,
+        road_class_link: true,
+        roundabout: false,
+        surface: Surface::Sand as u8,
+        toll: Toll::No as u8,
+        lanes: 7,
+        max_speed: MISSING_MAX_SPEED,
+        car_access: false,
+        bike_access: true,
+        foot_access: true,
+        car_speed: 0,
+        bike_speed: 18,
+        foot_speed: 5,
+    };
+    EdgeValues { forward, reverse }
+}
+
+/// The values that are read where these were written are these.
+fn written_and_read<W: EdgeWords>(
+    words: &mut W,
+    edge: EdgeId,
+    values: &EdgeValues,
+    reverse: bool,
+) -> DirValues
+    requires { edge.0 < W.edges words.old }
+    ensures { result ≡ (if reverse then values.now.reverse else values.now.forward) }
+{
+    both_are_in_range(values);
+    put_values(words, edge, values);
+    if reverse {
+        take_values(words, edge, true)
+    } else {
+        take_values(words, edge, false)
+    }
+}
+
+#[test]
+fn a_roads_values_are_read_as_they_were_written(rt: HostRuntime) -> Result<(), Fail> {
+    let mut words = TwoEdges {
+        rows: [[u32::MAX; 4]; 2],
+    };
+    let values = street();
+    let forward = written_and_read(&mut words, ONE, &values, false);
+    let reverse = written_and_read(&mut words, ONE, &values, true);
+    assert_eq!(rt; forward, values.forward);
+    assert_eq!(rt; reverse, values.reverse);
+    let plan = road_plan(rt.alloc())?;
+    let slots = plan.slots();
+    assert_eq!(rt; slots.len(), 13);
+    assert_eq!(rt; get(&words, &slots[3], ONE, true), 12);
+    assert_eq!(rt; get(&words, &slots[10], ONE, false), 50);
+    assert_eq!(rt; get(&words, &slots[10], ONE, true), 0);
+    assert_eq!(rt; get(&words, &slots[10], OTHER, true), 255);
+    Ok(())
 }
 
 #[test]

@@ -1,4 +1,4 @@
--- How the values of a road are packed into one number. Private: what is promised of it stands in `Road.antt`.
+-- How the values of a road are packed into one number. Private: what is promised stands in `Road.antt`.
 use Rattle.std.specs.Prelude.{ℕ, ◌+◌, ◌*◌, ◌^◌, List, [], ◌∷◌, ◌++◌}
 use Rattle.std.specs.Int.{from_bool}
 use Rattle.encoded_values.specs.Values.{Values, TwoValues}
@@ -20,10 +20,14 @@ access_items f r =
 
 abbrev pub speed_items : Values → Values → List (ℕ × ℕ)
 speed_items f r =
-    (8, f.car_speed) ∷ (8, r.car_speed) ∷ (8, f.bike_speed) ∷ (8, r.bike_speed) ∷ (8, f.foot_speed) ∷ (8, r.foot_speed) ∷ []
+    (8, f.car_speed) ∷ (8, r.car_speed) ∷ (8, f.bike_speed) ∷ (8, r.bike_speed) ∷
+    (8, f.foot_speed) ∷ (8, r.foot_speed) ∷ []
 
 abbrev pub road_items : TwoValues → List (ℕ × ℕ)
-road_items t = shared_items t.forward ++ (access_items t.forward t.reverse ++ speed_items t.forward t.reverse)
+road_items t =
+    shared_items t.forward ++ (access_items t.forward t.reverse ++ speed_items t.forward t.reverse)
 
 abbrev pub road_number : TwoValues → ℕ
-road_number t = packed_onto (shared_items t.forward) (packed_onto (access_items t.forward t.reverse) (packed_onto (speed_items t.forward t.reverse) 0))
+road_number t =
+    packed_onto (shared_items t.forward)
+    (packed_onto (access_items t.forward t.reverse) (packed_onto (speed_items t.forward t.reverse) 0))

@@ -11,7 +11,8 @@ shared first bits = record { first = first; bits = bits; directed = false }
 abbrev pub for_each : ℕ → ℕ → Place
 for_each first bits = record { first = first; bits = bits; directed = true }
 
--- the slots, in the order of the plan: class, link, roundabout, surface, toll, lanes, greatest speed; access and speed by car, by bike, on foot
+-- the slots, in the order of the plan: class, link, roundabout, surface, toll, lanes, greatest speed; access
+-- and speed, each by car, by bike and on foot
 abbrev pub road_slots : List Place
 road_slots =
     shared 0 4 ∷ shared 4 1 ∷ shared 5 1 ∷ shared 6 4 ∷ shared 10 2 ∷ shared 12 3 ∷ shared 15 8 ∷

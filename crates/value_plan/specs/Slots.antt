@@ -1,5 +1,5 @@
 -- Slots of values among the 128 bits of an edge (GraphHopper, "EncodedValue" and "IntsRef").
-use Rattle.std.specs.Prelude.{◌≡◌, ℕ, ◌+◌, ◌*◌, ◌/◌, ◌%◌, ◌^◌, ◌≤◌, ◌⊎◌, Bool, ◌&&◌, if◌then◌else◌, List, sum_by, All, AllPairs}
+use Rattle.std.specs.Prelude.{◌≡◌, ◌≢◌, ℕ, ◌+◌, ◌*◌, ◌/◌, ◌%◌, ◌^◌, ◌≤◌, ◌⊎◌, Bool, ◌&&◌, if◌then◌else◌, List, sum_by, All, AllPairs}
 
 -- a slot: its first bit, how many bits a value has, and whether each direction has a value of its own
 pub record Place : Type 0 where
@@ -43,7 +43,8 @@ pub record AreSideBySide (slots : List Place) (used : ℕ) : Type 0 where
   pub sum : bits_of slots ≡ used
   pub few : used ≤ 128
 
--- the first bit of a value: that of the reverse direction stands behind that of the forward one, and is the same where a slot isn't directed
+-- the first bit of a value: that of the reverse direction stands behind that of the forward one, and is
+-- the same where a slot isn't directed
 abbrev pub first_in : Place → Bool → ℕ
 first_in slot reverse = if slot.directed && reverse then slot.first + slot.bits else slot.first
 
@@ -57,3 +58,7 @@ value_of number slot reverse = number / 2 ^ first_in slot reverse % 2 ^ slot.bit
 
 abbrev pub value_in : (ℕ → ℕ) → Place → Bool → ℕ
 value_in word slot reverse = value_of (number_of word) slot reverse
+
+-- the words of no other edge change
+abbrev pub ChangesOnly : ℕ → (ℕ → ℕ → ℕ) → (ℕ → ℕ → ℕ) → Type 0
+ChangesOnly edge old new = (other index : ℕ) → other ≢ edge → new other index ≡ old other index

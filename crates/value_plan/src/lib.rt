@@ -1,9 +1,10 @@
 //! The plan of an edge's values: which bits of its four words each of them has.
 //!
 //! Promises: slots of a plan share no bit, so what one sets no other reads; a value that is set is the
-//! value that is read; a slot beyond the 128 bits is refused, and the plan then is as before. It stands on
-//! `gh_base` for the words of an edge, and on `encoded_values` for what a road is like. What a slot's value is
-//! of the words stands in `specs/Slots.antt`.
+//! value that is read; a slot beyond the 128 bits is refused, and the plan then is as before. A
+//! road's own values have a plan of 77 bits, and are taken from an edge's words as they were put
+//! there. It stands on `gh_base` for those words, and on `encoded_values` for what a road is like.
+//! Slots stand in `specs/Slots.antt`, a road's in `specs/Road.antt`.
 #![tactic(auto)]
 
 mod faults;

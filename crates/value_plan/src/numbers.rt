@@ -1,6 +1,6 @@
-//! The four words of an edge as one number of 128 bits, so that a value is where it is, also across words.
-ghost use Rattle.std.specs.Prelude.{◌≡◌, ◌≢◌, ◌<◌, ◌≤◌, ◌+◌, ◌*◌, ◌/◌, ◌%◌, ◌^◌, ℕ};
-ghost use Rattle.value_plan.specs.Slots.{number_of};
+//! The four words of an edge as one number of 128 bits, so that a value may lie across words.
+ghost use Rattle.std.specs.Prelude.{◌≡◌, ◌<◌, ◌≤◌, ◌+◌, ◌*◌, ◌/◌, ◌%◌, ◌^◌};
+ghost use Rattle.value_plan.specs.Slots.{ChangesOnly, number_of};
 
 use gh_base::{EdgeId, EdgeWords};
 
@@ -24,7 +24,7 @@ fn two_words(low: u32, high: u32) -> u64
 pub fn put_number<W: EdgeWords>(words: &mut W, edge: EdgeId, number: u128)
     requires { edge.0 < W.edges words.old }
     ensures number { number_of (W.word_of words.new edge.0) ≡ number }
-    ensures elsewhere { (other index : ℕ) → other ≢ edge.0 → W.word_of words.new other index ≡ W.word_of words.old other index }
+    ensures elsewhere { ChangesOnly edge.0 (W.word_of words.old) (W.word_of words.new) }
     ensures edges { W.edges words.new ≡ W.edges words.old }
 {
     words.set_word(edge, 0, low_word(number));

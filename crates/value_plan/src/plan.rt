@@ -11,8 +11,8 @@ use std::marker::Model;
 /// How many bits the four words of an edge have.
 const ALL_BITS: u32 = 128;
 
-/// Which bits the values of an edge have. Contracts see the list of the slots, in the order in which they
-/// were added. They lie side by side, the first one at bit 0:
+/// Which bits the values of an edge have. Contracts see the list of the slots, in the order in which
+/// they were added. They lie side by side, the first one at bit 0:
 ///
 ///     bit   0      4   5         21
 ///           |class |link|speed + |speed - ...      a value with directions has its bits twice
@@ -53,8 +53,8 @@ impl Plan {
         self.slots.as_slice()
     }
 
-    /// Adds a slot of so many bits, or of as many for each direction. The name tells readers what it is
-    /// for and isn't kept: names needn't differ.
+    /// Adds a slot of so many bits, or of as many for each direction. The name tells readers what it
+    /// is for and isn't kept: names needn't differ.
     pub fn add(&mut self, _name: &str, bits: u32, directed: bool) -> Result<Slot, PlanFault>
         requires some { 1 ≤ bits }
         requires few { bits ≤ 32 }
@@ -62,7 +62,8 @@ impl Plan {
         ensures slot { IfOk result (λ slot. slot ≡ behind self.old bits directed) }
         ensures apart { IfOk result (λ slot. All (λ other. AreApart other slot) self.old) }
         ensures sum { OnOk result (bits_of self.new ≡ bits_of self.old + width_of bits directed) }
-        ensures no_bits { (result ≡ Err PlanFault.NoBits) ↔ (128 < bits_of self.old + width_of bits directed) }
+        ensures no_bits { (result ≡ Err PlanFault.NoBits)
+            ↔ (128 < bits_of self.old + width_of bits directed) }
         ensures err { OnErr result (self.new ≡ self.old) }
     {
         let width = width_of(bits, directed);

@@ -1,7 +1,7 @@
 //! The values of a road, by the plan of 77 bits.
-ghost use Rattle.std.specs.Prelude.{◌≡◌, ◌≢◌, ◌<◌, ◌≤◌, ◌+◌, ℕ, true, false, Err, IfOk};
+ghost use Rattle.std.specs.Prelude.{◌≡◌, ◌≢◌, ◌<◌, ◌≤◌, ◌+◌, true, false, Err, IfOk};
 ghost use Rattle.encoded_values.specs.Values.{AreInRange, AreTwoInRange};
-ghost use Rattle.value_plan.specs.Slots.{number_of};
+ghost use Rattle.value_plan.specs.Slots.{ChangesOnly, number_of};
 ghost use Rattle.value_plan.specs.Road.{HoldsAlong, road_slots};
 ghost use Rattle.value_plan.specs.Packing.{packed_onto, shared_items, access_items, speed_items, road_number};
 
@@ -35,12 +35,12 @@ pub fn road_plan(alloc: Global) -> Result<Plan, PlanFault>
     Ok(plan)
 }
 
-/// Writes the values of an edge into its words, by the plan of a road's values. Bits beyond it become 0.
+/// Puts the values of an edge into its words, by the plan of a road's values. Bits beyond it become 0.
 pub fn put_values<W: EdgeWords>(words: &mut W, edge: EdgeId, values: &EdgeValues)
     requires { edge.0 < W.edges words.old }
     ensures forward { HoldsAlong (number_of (W.word_of words.new edge.0)) values.now.forward false }
     ensures reverse { HoldsAlong (number_of (W.word_of words.new edge.0)) values.now.reverse true }
-    ensures elsewhere { (other index : ℕ) → other ≢ edge.0 → W.word_of words.new other index ≡ W.word_of words.old other index }
+    ensures elsewhere { ChangesOnly edge.0 (W.word_of words.old) (W.word_of words.new) }
     ensures edges { W.edges words.new ≡ W.edges words.old }
 {
     let number = number_of_values(values);

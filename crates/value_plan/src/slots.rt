@@ -1,6 +1,6 @@
 //! Slots, and the values in them.
-ghost use Rattle.std.specs.Prelude.{◌≡◌, ◌≢◌, ◌<◌, ◌≤◌, ◌+◌, ◌^◌, ℕ, Bool, not, IsTrue};
-ghost use Rattle.value_plan.specs.Slots.{Place, AreApart, IsInWords, first_in, value_in, width_of};
+ghost use Rattle.std.specs.Prelude.{◌≡◌, ◌<◌, ◌≤◌, ◌+◌, ◌^◌, Bool, not, IsTrue};
+ghost use Rattle.value_plan.specs.Slots.{Place, AreApart, ChangesOnly, IsInWords, first_in, value_in, width_of};
 
 use crate::numbers::{number_at, put_number, with_value};
 use gh_base::{EdgeId, EdgeWords};
@@ -23,7 +23,8 @@ impl Model for Slot {
 
     ghost inverse = { λ p. record { first = p.first; bits = p.bits; directed = p.directed } };
 
-    ghost invariant = { λ a. IsInWords (record { first = a.first; bits = a.bits; directed = a.directed }) };
+    ghost invariant = { λ a.
+        IsInWords (record { first = a.first; bits = a.bits; directed = a.directed }) };
 }
 
 impl Slot {
@@ -65,16 +66,19 @@ pub fn get<W: EdgeWords>(words: &W, slot: &Slot, edge: EdgeId, reverse: bool) ->
     ((number >> at) % (1 << slot.bits)) as u32
 }
 
-/// Gives an edge another value in a slot. No slot that shares no bit with it changes, nor does its other
-/// direction or another edge.
+/// Gives an edge another value in a slot. What shares no bit with the slot stays, as do its other
+/// direction and other edges.
 pub fn set<W: EdgeWords>(words: &mut W, slot: &Slot, edge: EdgeId, reverse: bool, value: u32)
     requires edge { edge.0 < W.edges words.old }
     requires fits { value < 2 ^ slot.now.bits }
     ensures value { value_in (W.word_of words.new edge.0) slot.now reverse ≡ value }
     ensures others { (other : Place) (turned : Bool) → AreApart slot.now other
-        → value_in (W.word_of words.new edge.0) other turned ≡ value_in (W.word_of words.old edge.0) other turned }
-    ensures turned { IsTrue slot.now.directed → value_in (W.word_of words.new edge.0) slot.now (not reverse) ≡ value_in (W.word_of words.old edge.0) slot.now (not reverse) }
-    ensures elsewhere { (other index : ℕ) → other ≢ edge.0 → W.word_of words.new other index ≡ W.word_of words.old other index }
+        → value_in (W.word_of words.new edge.0) other turned
+        ≡ value_in (W.word_of words.old edge.0) other turned }
+    ensures turned { IsTrue slot.now.directed
+        → value_in (W.word_of words.new edge.0) slot.now (not reverse)
+        ≡ value_in (W.word_of words.old edge.0) slot.now (not reverse) }
+    ensures elsewhere { ChangesOnly edge.0 (W.word_of words.old) (W.word_of words.new) }
     ensures edges { W.edges words.new ≡ W.edges words.old }
 {
     let at = slot.first_in(reverse);

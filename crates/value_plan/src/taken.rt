@@ -40,7 +40,8 @@ const FOOT_SPEED: u32 = 61;
 pub fn take_values<W: EdgeWords>(words: &W, edge: EdgeId, reverse: bool) -> DirValues
     requires edge { edge.0 < W.edges words.now }
     requires held { HoldsSome (number_of (W.word_of words.now edge.0)) reverse }
-    ensures { (values : Values) → HoldsAlong (number_of (W.word_of words.now edge.0)) values reverse → result ≡ values }
+    ensures { (values : Values)
+        → HoldsAlong (number_of (W.word_of words.now edge.0)) values reverse → result ≡ values }
 {
     let number = number_at(words, edge);
     values_in(number, reverse)
