@@ -1,6 +1,6 @@
 -- Written lines are read again, one behind another.
-use Rattle.std.proofs.Common.{◌≡◌, ◌≢◌, ◌∙◌, ℕ, suc, ℤ, ◌+◌, ◌<◌, ◌≤◌, List, [], ◌∷◌, ◌++◌, map, length, length-append, Bool, true, false, eqb, ltb, lt-ltb, Option, Some, None, Result, Ok, Err, IsUtf8, refl, ap, sym, arith, append-nil, append_assoc}
-use Rattle.std.specs.Prelude.{All, if◌then◌else◌, nat_lt}
+use Rattle.std.proofs.Common.{◌≡◌, ◌≢◌, ◌∙◌, ℕ, ℤ, ◌+◌, ◌<◌, ◌≤◌, List, [], ◌∷◌, ◌++◌, map, length, length-append, Bool, true, false, eqb, lt-ltb, Option, Some, None, Result, Ok, Err, refl, ap, sym, arith, append-nil, append_assoc}
+use Rattle.std.specs.Prelude.{All, if◌then◌else◌}
 use Rattle.std.specs.Fmt.{signed_decimal}
 use Rattle.std.specs.Str.Lossy.{utf8_valid_len}
 use Rattle.std.proofs.lemmas.Bool.{eq-eqb, ne_eqb}
@@ -9,7 +9,6 @@ use Rattle.std.proofs.lemmas.List.Elements.{All-cons, All-head, All-tail}
 use Rattle.std.proofs.lemmas.Str.{utf8_valid_len-IsUtf8}
 use Rattle.gh_base.specs.declared.kinds.ScriptKind.{ScriptKind}
 use Rattle.gh_base.specs.declared.kinds.ScriptKind.TheVariants as kind
-use Rattle.gh_base.specs.Decimals.{id_of}
 use Rattle.gh_base.specs.Maps.{IsShort}
 use Rattle.gh_base.specs.Parts.{parts_of}
 use Rattle.plain_map.proofs.Splits.{Each, each_append, each_more, Without, cut_at, cut_end}
