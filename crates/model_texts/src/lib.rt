@@ -22,6 +22,3 @@ pub use fault::{BadText, ConditionFault};
 pub use gh_base::ModelKind;
 pub use laws::conditions_group_so;
 pub use tokens::{begins_word, in_word};
-
-#[cfg(test)]
-mod tests;

@@ -6,8 +6,6 @@
 #![tactic(auto)]
 
 mod line;
-#[cfg(test)]
-mod tests;
 mod writing;
 
 pub use writing::write_roads;
