@@ -169,7 +169,7 @@ fn ors(mut found: TestList) -> Test
     Test::Or(found)
 }
 
-#[cycle(test)]
+#[cycle(alternative)]
 #[tactic(auto, unfolding(crate::specs::Conditions::atom))]
 fn atom(alloc: Global, text: &mut Cursor<'_>, areas: &[Area], depth: u32) -> Result<Test, TextStop>
     requires { length areas.now < 2 ^ 32 }
@@ -179,12 +179,12 @@ fn atom(alloc: Global, text: &mut Cursor<'_>, areas: &[Area], depth: u32) -> Res
     if !eat(text, b"(".as_slice()) {
         return plain(text, areas);
     }
-    let x = test(alloc, text, areas, depth)?;
+    let x = alternative(alloc, text, areas, depth)?;
     expect(text, ModelKind::Condition, b")".as_slice())?;
     Ok(x)
 }
 
-#[cycle(test)]
+#[cycle(alternative)]
 #[tactic(auto, unfolding(crate::specs::Conditions::negation))]
 fn negation(
     alloc: Global,
@@ -201,7 +201,7 @@ fn negation(
     Ok(nots(alloc, n, x)?)
 }
 
-#[cycle(test)]
+#[cycle(alternative)]
 #[tactic(auto, using(exact_json::proofs::Turns::one_more, exact_json::proofs::Turns::no_more, crate::proofs::Named::one_named), unfolding(crate::specs::Conditions::parts))]
 fn negations(
     alloc: Global,
@@ -223,7 +223,7 @@ fn negations(
     Err(text.refuse(ModelKind::Condition))
 }
 
-#[cycle(test)]
+#[cycle(alternative)]
 #[tactic(auto, unfolding(crate::specs::Conditions::conjunction))]
 fn conjunction(
     alloc: Global,
@@ -238,7 +238,7 @@ fn conjunction(
     Ok(ands(negations(alloc, text, areas, depth)?))
 }
 
-#[cycle(test)]
+#[cycle(alternative)]
 #[tactic(auto, using(exact_json::proofs::Turns::one_more, exact_json::proofs::Turns::no_more, crate::proofs::Named::one_named), unfolding(crate::specs::Conditions::parts))]
 fn conjunctions(
     alloc: Global,
@@ -260,9 +260,14 @@ fn conjunctions(
     Err(text.refuse(ModelKind::Condition))
 }
 
-#[cycle(test)]
+#[cycle(alternative)]
 #[tactic(auto, using(crate::proofs::Turns::deeper, crate::proofs::Turns::deepest), unfolding(crate::specs::Conditions::alternative))]
-fn test(alloc: Global, text: &mut Cursor<'_>, areas: &[Area], depth: u32) -> Result<Test, TextStop>
+fn alternative(
+    alloc: Global,
+    text: &mut Cursor<'_>,
+    areas: &[Area],
+    depth: u32,
+) -> Result<Test, TextStop>
     requires { length areas.now < 2 ^ 32 }
     ensures read { Reads (spec.test_at areas.now depth text.old) result text.new }
     ensures named { IfOk result (λ t. IsTrue (names_areas_of (length areas.now) t)) }
@@ -279,7 +284,7 @@ fn whole(alloc: Global, text: &mut Cursor<'_>, areas: &[Area]) -> Result<Test, T
     ensures read { Reads (spec.whole areas.now text.old) result text.new }
     ensures named { IfOk result (λ t. IsTrue (names_areas_of (length areas.now) t)) }
 {
-    let x = test(alloc, text, areas, MOST_DEPTH)?;
+    let x = alternative(alloc, text, areas, MOST_DEPTH)?;
     finish(text, ModelKind::Condition)?;
     Ok(x)
 }

@@ -4,7 +4,7 @@ use Rattle.gh_base.specs.declared.kinds.ModelKind.TheVariants.{Condition}
 use Rattle.exact_json.specs.Parsing.{turns}
 use Rattle.model_eval.specs.Conditions.{names_areas_of, all_true}
 use Rattle.model_texts.specs.Conditions as spec
-use Rattle.model_texts.proofs.conditions.+test.Given as goal
+use Rattle.model_texts.proofs.conditions.+alternative.Given as goal
 
 abbrev pub decreases-atom : goal.decreases-atom
 decreases-atom l = 6 * l.depth + 1
@@ -21,8 +21,8 @@ decreases-conjunction l = 6 * l.depth + 4
 abbrev pub decreases-conjunctions : goal.decreases-conjunctions
 decreases-conjunctions l = 6 * l.depth + 5
 
-abbrev pub decreases-test : goal.decreases-test
-decreases-test l = 6 * l.depth
+abbrev pub decreases-alternative : goal.decreases-alternative
+decreases-alternative l = 6 * l.depth
 
 abbrev pub invariant-negations-loop-turn : goal.invariant-negations-loop-turn
 invariant-negations-loop-turn l = record {
