@@ -1,24 +1,18 @@
 -- Roads of cars at their opening limits, and what guides searches over them.
-use Rattle.std.specs.Prelude.{◌≡◌, ℕ, ◌<◌, List, [], length, Option, Some, None}
+use Rattle.std.specs.Prelude.{◌≡◌, ℕ, ◌<◌, List, length, Option, Some, None}
 use Rattle.gh_base.specs.Networks.{Network}
 use Rattle.walk_rules.specs.Potentials.{flat}
 use Rattle.query_graph.specs.declared.ends.Reach.TheVariants.{Node}
 use Rattle.weighting.specs.Profiles.{profile_at}
 use Rattle.weighting.specs.Roads.{network_back, opening_of}
 use Rattle.landmark_prep.specs.Preparations.{Preparation}
-use Rattle.landmark_prep.specs.declared.making.Made.{Made}
-use Rattle.landmark_prep.specs.declared.making.Made.TheVariants.{Prep, NoLandmark}
 use Rattle.landmark_prep.specs.Bounds.{bound_of, labels_at, picked, potential_of}
 use Rattle.landmark_prep.specs.Choosing.{AreActive}
 use Rattle.traffic_core.specs.Lands.{Land, rule_alone}
-use Rattle.traffic_core.specs.Truth.{IsPrepAt, network_at}
 use Rattle.two_way_search.specs.Behind.{behind_of}
+use Rattle.map_roads.specs.Opening.{IsGuideOf}
 
--- the roads as the first profile weighs them at the limits that they open with
-abbrev pub opening_network : Land → Network
-opening_network land = network_at land 0 (opening_of land.graph)
-
--- the same turned round
+-- the roads as the first profile weighs them at the limits that they open with, turned round
 abbrev pub opening_back : Land → Network
 opening_back land = network_back (rule_alone (profile_at land.profiles 0)) (opening_of land.graph) land.graph
 
@@ -40,17 +34,8 @@ pub record Guided : Type 0 where
   pub land : Land
   pub guide : Option Preparation
 
--- it is one of the first profile at the opening limits
-abbrev pub IsOpeningGuide : Land → Option Preparation → Type 0
-IsOpeningGuide land None = Unit {0}
-IsOpeningGuide land (Some prep) = (count : ℕ) × IsPrepAt land [] 0 count prep
-
 -- there is a first profile, and what guides is of it
 pub record IsGuided (land : Land) (guide : Option Preparation) : Type 0 where
   pub there : 0 < length land.profiles
-  pub opening : IsOpeningGuide land guide
-
--- the preparation that was made, if there is one
-abbrev pub prep_in : Made → Option Preparation
-prep_in (Prep prep) = Some prep
-prep_in NoLandmark = None
+  pub count : ℕ
+  pub guides : IsGuideOf land count guide

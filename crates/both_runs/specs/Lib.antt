@@ -1,4 +1,3 @@
 pub mod Guided
 pub mod Lines
-pub mod Statuses
 pub mod Runs

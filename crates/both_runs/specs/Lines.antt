@@ -14,7 +14,8 @@ use Rattle.script_text.specs.Replies.{hops_text, reply_text}
 use Rattle.query_lines.specs.declared.queries.TowerQuery.{TowerQuery}
 use Rattle.both_runs.specs.declared.answer.BothAnswer.{BothAnswer}
 use Rattle.both_runs.specs.declared.answer.BothAnswer.TheVariants.{NoNode, NoRoute, Overflow, Walk}
-use Rattle.both_runs.specs.Guided.{opening_network, opening_back, AreBounds}
+use Rattle.map_roads.specs.Opening.{opening_network}
+use Rattle.both_runs.specs.Guided.{opening_back, AreBounds}
 
 -- at so many nodes each side is started: forward first and in turn, at none where nothing is to be searched, and else as the keys by these bounds ask
 pub record AreRightStarts (land : Land) (ahead behind : ℕ → Option ℕ) (from to forward backward : ℕ) : Type 0 where

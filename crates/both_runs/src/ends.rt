@@ -1,15 +1,15 @@
 //! Answers to queries by searches from both ends.
 ghost use Rattle.std.specs.Prelude.{◌≡◌, ◌<◌, length, IfOk};
-ghost use Rattle.traffic_core.specs.Seen.{seen};
-ghost use Rattle.both_runs.specs.Guided.{IsGuided};
+ghost use Rattle.map_roads.specs.Opening.{guide_of, IsGuideOf};
 ghost use Rattle.both_runs.specs.Lines.{IsRight, IsRightBetween};
 
 use crate::answer::BothAnswer;
 use crate::between::answer_by;
-use crate::line::put_line;
+use crate::line::line_of;
 use alt_search::FlatPotential;
 use gh_base::{NoMemory, NodeId, Text};
-use landmark_prep::{Goal, Prep, active_landmarks_are_one, preparations_are_one, preparations_fit};
+use landmark_prep::{Made, active_landmarks_are_one, preparations_are_one, preparations_fit};
+use map_roads::potential_between;
 use query_lines::{Answering, TowerQuery};
 use std::alloc::Global;
 use std::marker::Model;
@@ -17,12 +17,12 @@ use traffic_core::Ground;
 use two_way_search::Behind;
 use weighting::{no_hop_is_faster, sides_turn_along_edges};
 
-/// Roads, and the preparation of the first profile at the opening limits that guides searches over
-/// them, if there is one. Contracts see the roads and the preparation.
+/// Roads, and what was made of them at the opening limits for the first profile, which guides
+/// searches. Contracts see the roads and the preparation, if there is one.
 #[derive(Drop)]
 pub(crate) struct BothEnds<'a> {
     ground: &'a Ground,
-    prep: Option<&'a Prep>,
+    made: &'a Made,
 }
 
 impl<'a> Model for BothEnds<'a> {
@@ -34,21 +34,21 @@ impl<'a> Model for BothEnds<'a> {
 
     ghost coded = { Prim.hlevel (codes, e.the_row.coded) };
 
-    ghost use Rattle.traffic_core.specs.Seen.{seen};
+    ghost use Rattle.map_roads.specs.Opening.{guide_of};
     ghost use Rattle.both_runs.specs.Guided.{IsGuided};
 
-    ghost view = { λ ends. record { land = ends.ground.now; guide = seen ends.prep } };
+    ghost view = { λ ends. record { land = ends.ground.now; guide = guide_of ends.made.now } };
 
-    ghost invariant = { λ ends. IsGuided ends.ground.now (seen ends.prep) };
+    ghost invariant = { λ ends. IsGuided ends.ground.now (guide_of ends.made.now) };
 }
 
 impl<'a> BothEnds<'a> {
-    pub(crate) fn new(ground: &'a Ground, prep: Option<&'a Prep>) -> BothEnds<'a>
-        requires { IsGuided ground.now (seen prep) }
-        ensures land { result.land ≡ ground.now }
-        ensures guide { result.guide ≡ seen prep.entry }
+    pub(crate) fn new(ground: &'a Ground, made: &'a Made, count: u32) -> BothEnds<'a>
+        requires there { 0 < length ground.now.profiles }
+        requires guides { IsGuideOf ground.now count (guide_of made.now) }
+        ensures { result ≡ record { land = ground.now; guide = guide_of made.now } }
     {
-        BothEnds { ground, prep }
+        BothEnds { ground, made }
     }
 
     /// The answer between two towers.
@@ -62,7 +62,7 @@ impl<'a> BothEnds<'a> {
         requires to { to.0 < length self.now.land.graph.places }
         ensures { IfOk result (IsRightBetween self.now.land self.now.guide from.0 to.0) }
     {
-        let Some(prep) = self.prep else {
+        let Made::Prep(prep) = self.made else {
             return answer_by(alloc, self.ground, &FlatPotential, &FlatPotential, from, to);
         };
         preparations_are_one();
@@ -72,7 +72,7 @@ impl<'a> BothEnds<'a> {
         no_hop_is_faster();
         // The law of turned sides asks for the facts of the graph.
         self.ground.graph();
-        let ahead = prep.potential(prep.pick_active(from, to), Goal::Node(to));
+        let ahead = potential_between(self.ground, prep, from, to);
         let behind = Behind::new(prep, prep.pick_active(from, to), from);
         answer_by(alloc, self.ground, &ahead, &behind, from, to)
     }
@@ -96,8 +96,8 @@ impl<'a> Answering for BothEnds<'a> {
 
     ghost right = { λ ends query line. IsRightLine ends.land ends.guide query line };
 
-    fn put(&self, alloc: Global, out: &mut Text, query: TowerQuery) -> Result<(), NoMemory> {
+    fn line(&self, alloc: Global, query: TowerQuery) -> Result<Text, NoMemory> {
         let answer = self.answer(alloc, query)?;
-        put_line(out, &answer)
+        line_of(alloc, &answer)
     }
 }

@@ -1,10 +1,11 @@
 //! Lines of answers.
-ghost use Rattle.std.specs.Prelude.{◌≡◌, ◌++◌, codes, OnOk};
+ghost use Rattle.std.specs.Prelude.{◌≡◌, ◌++◌, codes, IfOk, OnOk};
 ghost use Rattle.both_runs.specs.Lines as spec;
 
 use crate::answer::BothAnswer;
 use gh_base::{Hop, NoMemory, Text};
 use script_text::{Reply, put_answer, put_count, put_hops};
+use std::alloc::Global;
 
 /// A word, and both counts of starts behind it.
 fn put_starts(out: &mut Text, word: &str, forward: u32, backward: u32) -> Result<(), NoMemory>
@@ -52,9 +53,11 @@ fn put_text(out: &mut Text, answer: &BothAnswer) -> Result<(), NoMemory>
 }
 
 /// What an answer says, and a newline.
-pub(crate) fn put_line(out: &mut Text, answer: &BothAnswer) -> Result<(), NoMemory>
-    ensures { OnOk result (out.new ≡ out.old ++ (spec.answer_text answer.now ++ codes "\n")) }
+pub(crate) fn line_of(alloc: Global, answer: &BothAnswer) -> Result<Text, NoMemory>
+    ensures { IfOk result (λ line. line ≡ spec.answer_text answer.now ++ codes "\n") }
 {
-    put_text(out, answer)?;
-    out.push("\n")
+    let mut line = Text::new(alloc);
+    put_text(&mut line, answer)?;
+    line.push("\n")?;
+    Ok(line)
 }

@@ -4,16 +4,17 @@ ghost use Rattle.std.specs.Io.KnownBytes.{Keeps};
 ghost use Rattle.gh_base.specs.Causes.{Rose};
 ghost use Rattle.generated_run.specs.Generating.{Generates, GeneratesFront};
 ghost use Rattle.gh_words.specs.Words.{asks};
-ghost use Rattle.gh_serve.specs.Runs.{IfReads, IfGenerates, IfMapServed, IfScriptServed, IfBothServed, IfMapConverted, IfRoadsTold, IfMapPrepared, IfMapChecked, IfStoreChecked, IfMapAsked, IfLinesAsked, IfAllAsked, IsServable};
+ghost use Rattle.gh_serve.specs.Runs.{IfReads, IfGenerates, IfMapServed, IfScriptServed, IfBothServed, IfMapConverted, IfRoadsTold, IfMapPrepared, IfChecks, IfMapChecked, IfStoreChecked, IfAnswers, IfMapAsked, IfLinesAsked, IfAllAsked, IsServable};
 ghost use Rattle.gh_serve.specs.Roads.{WritesRoads, WritesRoadsFront, WritesRoadsPart};
-ghost use Rattle.gh_serve.specs.Answers.{Answers, AnswersFront, AnswersPart, IsAnswerable};
+ghost use Rattle.gh_serve.specs.Answers.{Answers, AnswersFront, IsAnswerable};
 ghost use Rattle.query_lines.specs.Lines.{LinesSay};
 ghost use Rattle.map_roads.specs.Statuses.{IsMap, MapSays, IsCalm, IsDoneOrNoMemory};
 ghost use Rattle.gh_serve.specs.Statuses.{ScriptSays, LabelsSay, IsStatusOf, IsSilent};
 ghost use Rattle.map_roads.specs.declared.status.Which.TheVariants as which;
 ghost use Rattle.gh_serve.specs.Serving.{Serves, ServesFront, ServesPart};
-ghost use Rattle.prep_runs.specs.Preps.{Preps, PrepsFront, PrepsPart, PrepSays, Checks, ChecksFront, ChecksPart, StoreSays, HasNoFault};
+ghost use Rattle.prep_runs.specs.Preps.{IsPrepText, PrepsFront, PrepsPart, PrepSays, IsCheckText, StoreSays, HasNoFault};
 ghost use Rattle.map_roads.specs.Cars.{AreFewOfPrep, FewSay};
+ghost use Rattle.map_roads.specs.Written.{Writes, WritesFront};
 ghost use Rattle.gh_serve.specs.Converting.{Converts, ConvertsFront, ConvertsPart, ConversionSays, IsConvertible};
 
 use crate::commands::{convert_map, roads_map, serve_map};
@@ -59,12 +60,14 @@ pub fn run<R: Threads + Sync, F: Files, I: Source, K: Sink, G: Gate>(
     // Or the store of a preparation of the map's roads.
     ensures prepared { result ≡ Status.Done →
         IfMapPrepared (asks words.now) (F.holds files.old)
-        (λ _ form count held. Preps form held count (K.held out.old) (K.held out.new)) }
+        (λ _ form count held.
+        Writes (IsPrepText form held count) (K.held out.old) (K.held out.new)) }
 
     // Or what such a store is that was read.
     ensures checked { result ≡ Status.Done →
         IfStoreChecked (asks words.now) (F.holds files.old) (I.left script.old)
-        (λ _ form held bytes. Checks form held bytes (K.held out.old) (K.held out.new)) }
+        (λ _ form held bytes.
+        Writes (IsCheckText form held bytes) (K.held out.old) (K.held out.new)) }
 
     // Or a line for each query, by searches from both ends or under the map's turn restrictions.
     ensures answered { result ≡ Status.Done →
@@ -188,18 +191,16 @@ pub fn run<R: Threads + Sync, F: Files, I: Source, K: Sink, G: Gate>(
         (λ _ form count held. PrepsPart form held count (K.held out.old) (K.held out.new)) }
     ensures checked_front { result ≡ Status.WriteFault →
         IfStoreChecked (asks words.now) (F.holds files.old) (I.left script.old)
-        (λ _ form held bytes. ChecksFront form held bytes (K.held out.old) (K.held out.new)) }
+        (λ _ form held bytes.
+        WritesFront (IsCheckText form held bytes) (K.held out.old) (K.held out.new)) }
     ensures checked_part { result ≡ Status.NoMemory →
-        IfStoreChecked (asks words.now) (F.holds files.old) (I.left script.old)
-        (λ _ form held bytes. ChecksPart form held bytes (K.held out.old) (K.held out.new)) }
+        IfChecks (asks words.now) (λ _ _. Keeps (K.held out.old) (K.held out.new)) }
     ensures answered_front { result ≡ Status.WriteFault →
         IfAllAsked (asks words.now) (F.holds files.old) (I.left script.old)
         (λ way _ form count held bytes.
         AnswersFront way form held count bytes (K.held out.old) (K.held out.new)) }
     ensures answered_part { result ≡ Status.NoMemory →
-        IfAllAsked (asks words.now) (F.holds files.old) (I.left script.old)
-        (λ way _ form count held bytes.
-        AnswersPart way form held count bytes (K.held out.old) (K.held out.new)) }
+        IfAnswers (asks words.now) (λ _ _ _ _. Keeps (K.held out.old) (K.held out.new)) }
     ensures generated_front { result ≡ Status.WriteFault →
         IfGenerates (asks words.now)
         (λ size. GeneratesFront size (K.held out.old) (K.held out.new)) }

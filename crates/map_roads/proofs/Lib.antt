@@ -1,3 +1,5 @@
 pub mod OneMap
 pub mod Few
 pub mod Made
+pub mod Guiding
+pub mod Counted

@@ -1,8 +1,6 @@
 -- The roads of a map for cars, and the labels of landmarks that they are asked for.
-use Rattle.std.specs.Prelude.{ℕ, ◌+◌, ◌*◌, List, [], ◌∷◌, length, Option, Some, None, ◌≡◌, ◌<◌, ◌≤◌, Ok}
-use Rattle.landmark_prep.specs.Preparations.{Preparation}
+use Rattle.std.specs.Prelude.{ℕ, ◌+◌, ◌*◌, List, [], ◌∷◌, length, ◌≡◌, ◌<◌, ◌≤◌, Ok}
 use Rattle.traffic_core.specs.Lands.{Land, land_of}
-use Rattle.traffic_core.specs.Truth.{IsPrepAt, IsNoPrepAt}
 use Rattle.map_roads.specs.declared.status.Status.{Status}
 use Rattle.map_roads.specs.declared.status.Status.TheVariants as status
 use Rattle.map_roads.specs.declared.status.Which.TheVariants as which
@@ -29,6 +27,10 @@ pub record OfCars (Stands : Land → Type 0) (form : Form) (held : List ℕ) : T
   pub are : AreRoadsRead form held found
   pub stands : Stands (car_land found)
 
+-- roads are those of cars that a map's bytes are in a form
+abbrev pub AreCarsIn : Form → List ℕ → Land → Type 0
+AreCarsIn form held land = OfCars (λ cars. land ≡ cars) form held
+
 -- so many labels a preparation with so many landmarks asks for: one of each at each tower and edge
 pub record AsksPrep (form : Form) (held : List ℕ) (count labels : ℕ) : Type 0 where
   pub map : OsmMap
@@ -45,6 +47,12 @@ AreFewOfPrep form held count = (labels : ℕ) × AsksPrep form held count labels
 abbrev pub AreManyOfPrep : Form → List ℕ → ℕ → Type 0
 AreManyOfPrep form held count = (labels : ℕ) × AsksPrep form held count labels × (150000000 < labels)
 
+-- of a number of labels alone: a refusal is that they are too many, or want of memory
+abbrev pub IsTooMany : ℕ → Status → Type 0
+IsTooMany labels status.NoMemory = Unit {0}
+IsTooMany labels (status.TooLarge quantity.Labels limit) = (limit ≡ 150000000) × (limit < labels)
+IsTooMany labels status = ⊥
+
 -- by these labels: too many exactly where that is answered, unless an earlier refusal came
 abbrev pub FewSay : Status → Form → List ℕ → ℕ → Type 0
 FewSay status.Done form held count = AreFewOfPrep form held count
@@ -54,8 +62,3 @@ FewSay (status.BadScript line byte kind) form held count = AreFewOfPrep form hel
 FewSay (status.TooLarge quantity.Script limit) form held count = AreFewOfPrep form held count
 FewSay (status.TooLarge quantity.Labels limit) form held count = (limit ≡ 150000000) × AreManyOfPrep form held count
 FewSay status form held count = Unit {0}
-
--- what guides searches of cars at the opening limits: their preparation with at most so many landmarks, or nothing where no road can be used
-abbrev pub IsGuideOf : Land → ℕ → Option Preparation → Type 0
-IsGuideOf land count None = IsNoPrepAt land [] 0
-IsGuideOf land count (Some prep) = IsPrepAt land [] 0 count prep

@@ -1,3 +1,5 @@
 pub mod Statuses
+pub mod Written
 pub mod Reading
 pub mod Cars
+pub mod Opening

@@ -80,6 +80,11 @@ IsOfMap (status.BadMap fault) = Unit {0}
 IsOfMap (status.TooLarge quantity.Map limit) = Unit {0}
 IsOfMap status = ⊥
 
+-- those that reading the roads of cars gives, whose labels are counted
+abbrev pub IsOfCars : Status → Type 0
+IsOfCars (status.TooLarge quantity.Labels limit) = Unit {0}
+IsOfCars status = IsOfMap status
+
 -- those of them that reading the map gives, before it is imported
 abbrev pub IsOfReading : Status → Type 0
 IsOfReading (status.BadMap (fault.Import refusal)) = ⊥

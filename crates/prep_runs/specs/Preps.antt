@@ -1,6 +1,6 @@
 -- What `prep` writes of a map's roads, and what `check` says of a store that is read.
-use Rattle.std.specs.Prelude.{◌≡◌, ◌⊎◌, ◌<◌, ◌≤◌, ◌++◌, ℕ, List, [], Option, length, codes, decimal}
-use Rattle.std.specs.Io.KnownBytes.{Appends, Keeps}
+use Rattle.std.specs.Prelude.{◌≡◌, ◌⊎◌, ◌++◌, ℕ, List, [], Option, length, codes, decimal}
+use Rattle.std.specs.Io.KnownBytes.{Keeps}
 use Rattle.gh_base.specs.Causes.{AppendsFront}
 use Rattle.gh_base.specs.declared.kinds.Form.{Form}
 use Rattle.map_import.specs.declared.roads.Roads.{Roads}
@@ -17,23 +17,23 @@ use Rattle.map_roads.specs.declared.status.Status.TheVariants as status
 use Rattle.map_roads.specs.declared.status.Quantity.TheVariants as quantity
 use Rattle.map_roads.specs.Cars.{car_land, OfCars, AreFewOfPrep, AreManyOfPrep}
 
--- behind its old bytes the sink has the store of the preparation at the opening limits, with at most so many landmarks
-pub record Stores (count : ℕ) (old new : Option (List ℕ)) (land : Land) : Type 0 where
+-- a text is the store of the preparation at the opening limits, with at most so many landmarks
+pub record IsStoreAt (count : ℕ) (text : List ℕ) (land : Land) : Type 0 where
   pub prep : Preparation
   pub is_prep : IsPrepAt land [] 0 count prep
-  pub text : List ℕ
   pub store : IsStoreOf land prep text
-  pub written : Appends old new text
 
--- or a front of it
+-- of the roads of cars of the map that bytes are in a form
+abbrev pub IsPrepText : Form → List ℕ → ℕ → List ℕ → Type 0
+IsPrepText form held count text = OfCars (IsStoreAt count text) form held
+
+-- behind its old bytes the sink has a front of what is the store of that preparation
 pub record StoresFront (count : ℕ) (old new : Option (List ℕ)) (land : Land) : Type 0 where
   pub prep : Preparation
   pub is_prep : IsPrepAt land [] 0 count prep
   pub written : (text : List ℕ) → IsStoreOf land prep text → AppendsFront old new text
 
-abbrev pub Preps : Form → List ℕ → ℕ → Option (List ℕ) → Option (List ℕ) → Type 0
-Preps form held count old new = OfCars (Stores count old new) form held
-
+-- of the roads of cars
 abbrev pub PrepsFront : Form → List ℕ → ℕ → Option (List ℕ) → Option (List ℕ) → Type 0
 PrepsFront form held count old new = OfCars (StoresFront count old new) form held
 
@@ -53,14 +53,6 @@ PrepSays status.NoLandmark form held count = AreFewOfPrep form held count × Has
 PrepSays (status.TooLarge quantity.Labels limit) form held count = (limit ≡ 150000000) × AreManyOfPrep form held count
 PrepSays status form held count = Unit {0}
 
--- of roads alone
-abbrev pub PrepSaysOf : Status → Land → ℕ → ℕ → Type 0
-PrepSaysOf status.Done land count labels = labels ≤ 150000000
-PrepSaysOf status.WriteFault land count labels = labels ≤ 150000000
-PrepSaysOf status.NoLandmark land count labels = (labels ≤ 150000000) × IsNoPrepAt land [] 0
-PrepSaysOf (status.TooLarge quantity.Labels limit) land count labels = (limit ≡ 150000000) × (limit < labels)
-PrepSaysOf status land count labels = Unit {0}
-
 -- `prep N grain G` and a newline
 abbrev pub checked_text : Preparation → List ℕ
 checked_text prep = codes "prep " ++ (decimal (length prep.landmarks) ++ (codes " grain " ++ (decimal prep.grain ++ codes "\n")))
@@ -71,17 +63,9 @@ pub record IsChecked (bytes text : List ℕ) (land : Land) : Type 0 where
   pub stored : IsStored land prep bytes
   pub text_is : text ≡ checked_text prep
 
--- behind its old bytes the sink has that text
-abbrev pub Checks : Form → List ℕ → List ℕ → Option (List ℕ) → Option (List ℕ) → Type 0
-Checks form held bytes old new = (text : List ℕ) × OfCars (IsChecked bytes text) form held × Appends old new text
-
--- or a front of it
-abbrev pub ChecksFront : Form → List ℕ → List ℕ → Option (List ℕ) → Option (List ℕ) → Type 0
-ChecksFront form held bytes old new = (text : List ℕ) × OfCars (IsChecked bytes text) form held × AppendsFront old new text
-
--- or, where memory was wanting, a front of it or nothing
-abbrev pub ChecksPart : Form → List ℕ → List ℕ → Option (List ℕ) → Option (List ℕ) → Type 0
-ChecksPart form held bytes old new = ChecksFront form held bytes old new ⊎ Keeps old new
+-- over the roads of cars of the map that bytes are in a form
+abbrev pub IsCheckText : Form → List ℕ → List ℕ → List ℕ → Type 0
+IsCheckText form held bytes text = OfCars (IsChecked bytes text) form held
 
 -- the first fault of the store, where one is told
 abbrev pub StoreSays : Status → Form → List ℕ → List ℕ → Type 0

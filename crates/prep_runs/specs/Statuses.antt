@@ -21,7 +21,6 @@ IsOfCheck status = IsOfRoads status
 
 -- those that come of them once the map is read
 abbrev pub IsOfPreparing : Status → Type 0
-IsOfPreparing (status.TooLarge quantity.Labels limit) = Unit {0}
 IsOfPreparing status.NoLandmark = Unit {0}
 IsOfPreparing status = IsOfRun status
 

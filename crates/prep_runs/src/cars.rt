@@ -1,61 +1,52 @@
 //! Stores of preparations for cars at the opening limits: how they are written, and how they are checked.
-ghost use Rattle.std.specs.Prelude.{◌≡◌, ◌⊎◌, ◌≤◌, ◌*◌, List, ℕ, length, IfOk, IfErr, IsErrOf, IfSome, OnOk, OnErr};
+ghost use Rattle.std.specs.Prelude.{◌≡◌, ◌⊎◌, ◌<◌, ◌≤◌, [], length, IfOk, IfErr, IsErrOf, IfSome, OnOk};
 ghost use Rattle.std.specs.List.{IsDistinct};
 ghost use Rattle.std.specs.Ordering.{int_eq};
 ghost use Rattle.std.specs.Io.KnownBytes.{Appends, Keeps};
 ghost use Rattle.gh_base.specs.Causes.{Rose, AppendsFront};
 ghost use Rattle.traffic_core.specs.Lands.{AreAsLong};
 ghost use Rattle.prep_store.specs.Stores.{IsStored};
-ghost use Rattle.map_roads.specs.Cars.{car_land, size_of};
+ghost use Rattle.traffic_core.specs.Truth.{IsNoPrepAt};
+ghost use Rattle.map_roads.specs.Cars.{car_land};
+ghost use Rattle.map_roads.specs.Written.{Writes, WritesFront};
 ghost use Rattle.map_roads.specs.Statuses.{IsUnwritten};
 ghost use Rattle.prep_runs.specs.Statuses.{IsOfChecking, IsOfPreparing, IsOfStore, status_of_store};
-ghost use Rattle.prep_runs.specs.Preps.{IsChecked, PrepSaysOf, StoreSaysOf, Stores, StoresFront, checked_text};
+ghost use Rattle.prep_runs.specs.Preps.{IsChecked, IsStoreAt, StoreSaysOf, StoresFront, checked_text};
 
 use gh_base::{GiveFault, NoMemory, Sink, Source, Text, give_all};
 use landmark_prep::{Made, Prep};
 use map_import::Roads;
-use map_roads::{MOST_LABELS, Quantity, Status, Which, are_few_for, car_ground, prepare_opening};
+use map_roads::{Status, Which, car_ground, prepare_opening};
 use prep_store::{PrepFault, read_prep, write_prep};
 use std::alloc::Global;
 use std::thread::Threads;
 use traffic_core::Ground;
 
-/// Writes the store of a preparation of the roads for cars at the opening limits, with at most `count` landmarks.
+/// Writes the store of a preparation of the ground at the opening limits, with at most `count` landmarks.
 pub(crate) fn write_store<R: Threads + Sync, K: Sink>(
     rt: &R,
     alloc: Global,
-    roads: Roads,
+    ground: &Ground,
     count: u32,
     out: &mut K,
 ) -> Status
-    requires lengths { AreAsLong roads.graph.lists }
-    requires ids { length roads.ids ≡ length roads.graph.lists.places }
-    requires distinct { IsDistinct int_eq roads.ids }
+    requires there { 0 < length ground.now.profiles }
     requires some { 1 ≤ count }
     requires few { count ≤ 16 }
     ensures statuses { IsOfPreparing result }
-    ensures says { PrepSaysOf result (car_land roads) count (count * size_of (car_land roads)) }
-    ensures done { result ≡ Status.Done →
-        Stores count (K.held out.old) (K.held out.new) (car_land roads) }
+    ensures none { result ≡ Status.NoLandmark → IsNoPrepAt ground.now [] 0 }
+    ensures done { result ≡ Status.Done → Writes (λ text. IsStoreAt count text ground.now)
+        (K.held out.old) (K.held out.new) }
     ensures front { result ≡ Status.WriteFault →
-        StoresFront count (K.held out.old) (K.held out.new) (car_land roads) }
+        StoresFront count (K.held out.old) (K.held out.new) ground.now }
     ensures part { result ≡ Status.NoMemory →
-        StoresFront count (K.held out.old) (K.held out.new) (car_land roads)
+        StoresFront count (K.held out.old) (K.held out.new) ground.now
         ⊎ Keeps (K.held out.old) (K.held out.new) }
     ensures nothing { IsUnwritten result → Keeps (K.held out.old) (K.held out.new) }
     ensures cause { result ≡ Status.WriteFault → Rose (K.faults out.old) (K.faults out.new) }
 {
-    if !are_few_for(&roads, count) {
-        return Status::TooLarge {
-            what: Quantity::Labels,
-            limit: MOST_LABELS,
-        };
-    }
-    let Ok(ground) = car_ground(alloc, roads) else {
-        return Status::NoMemory;
-    };
-    match prepare_opening(rt, alloc, &ground, count) {
-        Ok(Made::Prep(prep)) => match write_prep(alloc, &ground, &prep, out) {
+    match prepare_opening(rt, alloc, ground, count) {
+        Ok(Made::Prep(prep)) => match write_prep(alloc, ground, &prep, out) {
             Ok(()) => Status::Done,
             Err(GiveFault::WriteFault) => Status::WriteFault,
             Err(GiveFault::NoMemory) => Status::NoMemory,
@@ -81,7 +72,9 @@ fn checked_line(alloc: Global, prep: &Prep) -> Result<Text, NoMemory>
 /// Tells of a preparation.
 fn tell<K: Sink>(alloc: Global, prep: &Prep, out: &mut K) -> Result<(), GiveFault>
     ensures ok { OnOk result (Appends (K.held out.old) (K.held out.new) (checked_text prep.now)) }
-    ensures err { OnErr result (AppendsFront (K.held out.old) (K.held out.new) (checked_text prep.now)) }
+    ensures front { IsErrOf result GiveFault.WriteFault →
+        AppendsFront (K.held out.old) (K.held out.new) (checked_text prep.now) }
+    ensures kept { IsErrOf result GiveFault.NoMemory → Keeps (K.held out.old) (K.held out.new) }
     ensures fault { IsErrOf result GiveFault.WriteFault → Rose (K.faults out.old) (K.faults out.new) }
 {
     let line = checked_line(alloc, prep)?;
@@ -126,15 +119,12 @@ pub(crate) fn check_store<I: Source, K: Sink>(
     ensures statuses { IsOfChecking result }
     ensures says { IfSome (I.left store.old) (StoreSaysOf result (car_land roads)) }
     ensures done { result ≡ Status.Done → IfSome (I.left store.old) (λ bytes.
-        (text : List ℕ) × IsChecked bytes text (car_land roads)
-        × Appends (K.held out.old) (K.held out.new) text) }
+        Writes (λ text. IsChecked bytes text (car_land roads))
+        (K.held out.old) (K.held out.new)) }
     ensures front { result ≡ Status.WriteFault → IfSome (I.left store.old) (λ bytes.
-        (text : List ℕ) × IsChecked bytes text (car_land roads)
-        × AppendsFront (K.held out.old) (K.held out.new) text) }
-    ensures part { result ≡ Status.NoMemory → IfSome (I.left store.old) (λ bytes.
-        ((text : List ℕ) × IsChecked bytes text (car_land roads)
-        × AppendsFront (K.held out.old) (K.held out.new) text)
-        ⊎ Keeps (K.held out.old) (K.held out.new)) }
+        WritesFront (λ text. IsChecked bytes text (car_land roads))
+        (K.held out.old) (K.held out.new)) }
+    ensures part { result ≡ Status.NoMemory → Keeps (K.held out.old) (K.held out.new) }
     ensures nothing { IsUnwritten result → Keeps (K.held out.old) (K.held out.new) }
     ensures read { result ≡ Status.ReadFault Which.Script →
         Rose (I.faults store.old) (I.faults store.new) }

@@ -4,11 +4,12 @@ ghost use Rattle.std.specs.Io.KnownBytes.{Keeps};
 ghost use Rattle.gh_base.specs.Causes.{Rose};
 ghost use Rattle.map_roads.specs.Statuses.{IsUnwritten, MapSays};
 ghost use Rattle.prep_runs.specs.Statuses.{IsOfPrep, IsOfCheck};
-ghost use Rattle.prep_runs.specs.Preps.{Preps, PrepsFront, PrepsPart, PrepSays, Checks, ChecksFront, ChecksPart, StoreSays};
+ghost use Rattle.map_roads.specs.Written.{Writes, WritesFront};
+ghost use Rattle.prep_runs.specs.Preps.{IsPrepText, PrepsFront, PrepsPart, PrepSays, IsCheckText, StoreSays};
 
 use crate::cars::{check_store, write_store};
 use gh_base::{Files, Form, Sink, Source};
-use map_roads::{Status, Which, read_roads};
+use map_roads::{Status, Which, read_cars, read_roads};
 use std::alloc::Global;
 use std::thread::Threads;
 
@@ -25,7 +26,7 @@ pub fn prep_map<R: Threads + Sync, F: Files, K: Sink>(
     requires some { 1 ≤ count }
     requires few { count ≤ 16 }
     ensures done { result ≡ Status.Done → IfSome (F.holds files.old name.now) (λ held.
-        Preps form held count (K.held out.old) (K.held out.new)) }
+        Writes (IsPrepText form held count) (K.held out.old) (K.held out.new)) }
     ensures map { IfSome (F.holds files.old name.now) (MapSays result form) }
     ensures says { IfSome (F.holds files.old name.now) (λ held. PrepSays result form held count) }
     ensures statuses { IsOfPrep result }
@@ -40,11 +41,11 @@ pub fn prep_map<R: Threads + Sync, F: Files, K: Sink>(
         PrepsPart form held count (K.held out.old) (K.held out.new)) }
     ensures nothing { IsUnwritten result → Keeps (K.held out.old) (K.held out.new) }
 {
-    let roads = match read_roads(alloc, files, name, form) {
-        Ok(roads) => roads,
+    let ground = match read_cars(alloc, files, name, form, count) {
+        Ok(ground) => ground,
         Err(status) => return status,
     };
-    write_store(rt, alloc, roads, count, out)
+    write_store(rt, alloc, &ground, count, out)
 }
 
 /// Checks a store of a preparation for cars of the map of a name, and tells of it.
@@ -58,7 +59,7 @@ pub fn check_map<F: Files, I: Source, K: Sink>(
 ) -> Status
     ensures done { result ≡ Status.Done → IfSome (F.holds files.old name.now) (λ held.
         IfSome (I.left store.old) (λ bytes.
-        Checks form held bytes (K.held out.old) (K.held out.new))) }
+        Writes (IsCheckText form held bytes) (K.held out.old) (K.held out.new))) }
     ensures map { IfSome (F.holds files.old name.now) (MapSays result form) }
     ensures store { IfSome (F.holds files.old name.now) (λ held.
         IfSome (I.left store.old) (λ bytes. StoreSays result form held bytes)) }
@@ -73,10 +74,8 @@ pub fn check_map<F: Files, I: Source, K: Sink>(
     ensures write { result ≡ Status.WriteFault → Rose (K.faults out.old) (K.faults out.new) }
     ensures front { result ≡ Status.WriteFault → IfSome (F.holds files.old name.now) (λ held.
         IfSome (I.left store.old) (λ bytes.
-        ChecksFront form held bytes (K.held out.old) (K.held out.new))) }
-    ensures part { result ≡ Status.NoMemory → IfSome (F.holds files.old name.now) (λ held.
-        IfSome (I.left store.old) (λ bytes.
-        ChecksPart form held bytes (K.held out.old) (K.held out.new))) }
+        WritesFront (IsCheckText form held bytes) (K.held out.old) (K.held out.new))) }
+    ensures part { result ≡ Status.NoMemory → Keeps (K.held out.old) (K.held out.new) }
     ensures nothing { IsUnwritten result → Keeps (K.held out.old) (K.held out.new) }
 {
     let roads = match read_roads(alloc, files, name, form) {

@@ -48,6 +48,12 @@ IsOfLines (status.BadScript line byte kind) = Unit {0}
 IsOfLines (status.TooLarge quantity.Script limit) = Unit {0}
 IsOfLines status = ⊥
 
+-- those that answering them gives, once the map is read
+abbrev pub IsOfAnswering : Status → Type 0
+IsOfAnswering status.Done = Unit {0}
+IsOfAnswering status.WriteFault = Unit {0}
+IsOfAnswering status = IsOfLines status
+
 -- those that answering queries over the map of a name gives
 abbrev pub IsOfQueries : Status → Type 0
 IsOfQueries status.Done = Unit {0}

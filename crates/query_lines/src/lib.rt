@@ -11,6 +11,6 @@ mod line;
 mod queries;
 mod reading;
 
-pub use answering::{Answering, answer_all};
+pub use answering::{Answering, answer_lines};
 pub use queries::{QueryList, TowerQuery};
 pub use reading::read_query_lines;

@@ -1,5 +1,5 @@
 -- From what is found by states to turn walks.
-use Rattle.std.proofs.Common.{◌≡◌, ◌≢◌, ◌↔◌, ℕ, ◌<◌, ◌≤◌, Option, Result, Ok, Err, IfOk, List, [], ◌∷◌, ◌++◌, map, length, All, Contains, refl, sym, subst, ap, ◌∙◌}
+use Rattle.std.proofs.Common.{◌≡◌, ◌≢◌, ◌↔◌, ℕ, ◌<◌, ◌≤◌, Option, Result, Ok, Err, IfOk, List, [], ◌∷◌, ◌++◌, map, length, All, Contains, refl, sym, subst, ap, ◌∙◌, arith}
 use Rattle.std.proofs.lemmas.List.Elements.{All-nil, All-cons}
 use Rattle.gh_base.specs.declared.edges.DirEdge.{DirEdge}
 use Rattle.gh_base.specs.declared.edges.Hop.{Hop}
@@ -96,9 +96,18 @@ module _ (graph : Graph) (base : Network) (over : IsOver graph base) where
       found_none bound Feasible (Barred settled) (AWalk out its_weight its_settled) f b is = absurd b
       found_none bound Feasible (Barred settled) (Barred its_settled) f b is = (λ no. none_is.0 ((f.none is).0 no), λ n. tt)
 
+-- a walk has no more hops from tower to tower than by states
+pub found_long : (graph : Graph) (network : Network) (bound : ℕ → Option ℕ) (start target : ℕ) (Feasible : Type 0) (found out : Found) → IsFoundIn network bound start target Feasible found → IsByTowers graph found out →
+    IfWalk out (λ hops _ settled. length hops ≤ settled)
+found_long graph network bound start target Feasible (AWalk hops weight settled) (AWalk out its_weight its_settled) f b = omega (arith, f.long, b.no_longer, b.settled)
+found_long graph network bound start target Feasible (AWalk hops weight settled) (Barred its_settled) f b = absurd b
+found_long graph network bound start target Feasible (Barred settled) (AWalk out its_weight its_settled) f b = absurd b
+found_long graph network bound start target Feasible (Barred settled) (Barred its_settled) f b = tt
+
 -- what a search answers, as its clauses say it
 record Searched (network : Network) (bound : ℕ → Option ℕ) (start target : ℕ) (found : Result Found NoMemory) : Type 0 where
   walk : IfOk found (λ f. IfWalk f (λ hops weight _. IsWalk network start hops target × (weight_of hops ≡ weight)))
+  long : IfOk found (λ f. IfWalk f (λ hops _ settled. length hops ≤ settled))
   least : IsFeasible network bound target → IfOk found (λ f. IfWalk f (λ _ weight _. IsAtMostEachWalk network start target weight))
   none : IsFeasible network bound target → IfOk found (λ f. IsNoWalk f ↔ NoWalk network start target)
   within : IsFeasible network bound target → IfOk found (λ f. IfWalk f (λ _ weight settled. StartsWithin network bound start target weight settled))
@@ -109,6 +118,7 @@ is_found : (network : Network) (bound : ℕ → Option ℕ) (start target : ℕ)
 is_found network bound start target Feasible (Err e) is s = tt
 is_found network bound start target Feasible (Ok found) is s = record {
   walk = s.walk;
+  long = s.long;
   least = λ f. s.least (is f);
   none = λ f. s.none (is f);
   within = λ f. s.within (is f);
@@ -118,13 +128,14 @@ is_found network bound start target Feasible (Ok found) is s = record {
 pub found_in : (first network : Network) (first_bound bound : ℕ → Option ℕ) (first_start start first_target target : ℕ) (Feasible : Type 0) (found : Result Found NoMemory) →
     first ≡ network → first_bound ≡ bound → first_start ≡ start → first_target ≡ target → (Feasible → IsFeasible network bound target) →
     IfOk found (λ f. IfWalk f (λ hops weight _. IsWalk first first_start hops first_target × (weight_of hops ≡ weight))) →
+    IfOk found (λ f. IfWalk f (λ hops _ settled. length hops ≤ settled)) →
     (IsFeasible first first_bound first_target → IfOk found (λ f. IfWalk f (λ _ weight _. IsAtMostEachWalk first first_start first_target weight))) →
     (IsFeasible first first_bound first_target → IfOk found (λ f. IsNoWalk f ↔ NoWalk first first_start first_target)) →
     (IsFeasible first first_bound first_target → IfOk found (λ f. IfWalk f (λ _ weight settled. StartsWithin first first_bound first_start first_target weight settled))) →
     (IsFeasible first first_bound first_target → IfOk found (λ f. IfNoWalk f (λ settled. StartsAtAll first first_bound first_start first_target settled))) →
     IfOk found (IsFoundIn network bound start target Feasible)
-found_in first network first_bound bound first_start start first_target target Feasible found n b s t is w l z wi al =
-    let one : Searched first first_bound first_start first_target found = record { walk = w; least = l; none = z; within = wi; all = al } in
+found_in first network first_bound bound first_start start first_target target Feasible found n b s t is w lo l z wi al =
+    let one : Searched first first_bound first_start first_target found = record { walk = w; long = lo; least = l; none = z; within = wi; all = al } in
     let two = subst (λ (x : Network). Searched x first_bound first_start first_target found) n one in
     let three = subst (λ (x : ℕ → Option ℕ). Searched network x first_start first_target found) b two in
     let four = subst (λ (x : ℕ). Searched network bound x first_target found) s three in

@@ -1,5 +1,5 @@
 -- What a search by states finds, and what it is from tower to tower.
-use Rattle.std.specs.Prelude.{◌≡◌, ◌↔◌, ℕ, Option, List, [], ◌∷◌, ◌++◌, map}
+use Rattle.std.specs.Prelude.{◌≡◌, ◌↔◌, ◌≤◌, ℕ, Option, List, [], ◌∷◌, ◌++◌, length, map}
 use Rattle.gh_base.specs.declared.edges.Hop.{Hop}
 use Rattle.gh_base.specs.Networks.{Network}
 use Rattle.walk_rules.specs.Walks.{IsWalk, weight_of, IsAtMostEachWalk, NoWalk}
@@ -13,6 +13,7 @@ use Rattle.turn_graph.specs.Restrictions.{end_of}
 -- what a search finds in a network from a start to a target; a part holds where the bound is feasible
 pub record IsFoundIn (network : Network) (bound : ℕ → Option ℕ) (start target : ℕ) (Feasible : Type 0) (found : Found) : Type 0 where
   pub walk : IfWalk found (λ hops weight _. IsWalk network start hops target × (weight_of hops ≡ weight))
+  pub long : IfWalk found (λ hops _ settled. length hops ≤ settled)
   pub least : Feasible → IfWalk found (λ _ weight _. IsAtMostEachWalk network start target weight)
   pub none : Feasible → IsNoWalk found ↔ NoWalk network start target
   pub within : Feasible → IfWalk found (λ _ weight settled. StartsWithin network bound start target weight settled)
@@ -28,6 +29,7 @@ AreByTowers graph hops out = (walk : List Hop) (last : Hop) → hops ≡ walk ++
 
 pub record IsSameWalk (graph : Graph) (hops_in : List Hop) (weight_in settled_in : ℕ) (out : List Hop) (its_weight its_settled : ℕ) : Type 0 where
   pub hops : AreByTowers graph hops_in out
+  pub no_longer : length out ≤ length hops_in
   pub weight : its_weight ≡ weight_in
   pub settled : its_settled ≡ settled_in
 

@@ -1,5 +1,5 @@
 //! The search for a least walk with no banned turn.
-ghost use Rattle.std.specs.Prelude.{◌≡◌, ◌≢◌, ◌↔◌, ◌<◌, ◌≤◌, ◌^◌, ℤ, List, length, All, IfOk};
+ghost use Rattle.std.specs.Prelude.{◌≡◌, ◌≢◌, ◌↔◌, ◌<◌, ◌≤◌, ◌^◌, ℤ, List, [], length, All, IfOk};
 ghost use Rattle.walk_rules.specs.Walks.{weight_of};
 ghost use Rattle.walk_rules.specs.Potentials.{IsFeasible};
 ghost use Rattle.walk_rules.specs.Starts.{StartsWithin, StartsAtAll};
@@ -73,6 +73,11 @@ pub fn search_turns<V: RoadView + Drop, P: Potential + Drop>(
 
     // Where both towers are one, it starts nowhere.
     ensures here { from.0 ≡ to.0 → IfOk result (λ found. settled_of found ≡ 0) }
+
+    // A walk has no more hops than there were starts. To the start itself it has none.
+    ensures long { IfOk result (λ found. IfWalk found (λ hops _ settled. length hops ≤ settled)) }
+    ensures empty { from.0 ≡ to.0 →
+        IfOk result (λ found. IfWalk found (λ hops _ _. hops ≡ [])) }
 {
     if from.0 == to.0 {
         return Ok(Found::Walk {

@@ -1,5 +1,5 @@
 //! A walk by states, as a walk from tower to tower.
-ghost use Rattle.std.specs.Prelude.{◌≡◌, ◌<◌, length, All, IfOk};
+ghost use Rattle.std.specs.Prelude.{◌≡◌, ◌<◌, ◌≤◌, length, All, IfOk};
 ghost use Rattle.turn_graph.specs.Restrictions.{end_of};
 ghost use Rattle.turn_routes.specs.Unstated.{tower_hop, AreByTowers};
 
@@ -31,7 +31,8 @@ fn tower_hop(graph: &BaseGraph, hop: Hop) -> Hop
 /// The hops from tower to tower, without the last, which arrives.
 pub(crate) fn tower_hops(alloc: Global, graph: &BaseGraph, hops: &[Hop]) -> Result<Hops, NoMemory>
     requires { All (λ hop. hop.by.edge.0 < length graph.now.lists.edges) hops.now }
-    ensures { IfOk result (λ out. AreByTowers graph.now.lists hops.now out) }
+    ensures same { IfOk result (λ out. AreByTowers graph.now.lists hops.now out) }
+    ensures no_longer { IfOk result (λ out. length out ≤ length hops.now) }
 {
     let mut out = Hops::new(alloc);
     let Some((_, most)) = hops.split_last() else {

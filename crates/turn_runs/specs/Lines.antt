@@ -6,8 +6,6 @@ use Rattle.gh_base.specs.declared.edges.Hop.{Hop}
 use Rattle.gh_base.specs.Networks.{Network}
 use Rattle.walk_rules.specs.Walks.{weight_of}
 use Rattle.walk_rules.specs.Starts.{StartsWithin, StartsAtAll}
-use Rattle.weighting.specs.Profiles.{profile_at}
-use Rattle.weighting.specs.Roads.{opening_of}
 use Rattle.landmark_prep.specs.Preparations.{Preparation}
 use Rattle.turn_graph.specs.declared.turn.Turn.{Turn}
 use Rattle.turn_graph.specs.Restrictions.{Streets}
@@ -15,14 +13,13 @@ use Rattle.turn_graph.specs.Tables.{Table, streets_for}
 use Rattle.turn_graph.specs.TurnWalks.{IsTurnWalk, IsAtMostEachTurnWalk, NoTurnWalk}
 use Rattle.turn_graph.specs.States as states
 use Rattle.turn_graph.specs.Bounds.{bound_by}
-use Rattle.traffic_core.specs.declared.spot.Spot.TheVariants.{Tower}
-use Rattle.traffic_core.specs.Lands.{Land, IsTower, IsNoTower, rule_alone}
-use Rattle.traffic_core.specs.Trips.{Trip, trip_by, edge_mm}
-use Rattle.traffic_core.specs.Truth.{network_at, IsBoundOf}
+use Rattle.traffic_core.specs.Lands.{Land, IsTower, IsNoTower}
+use Rattle.traffic_core.specs.Trips.{edge_mm}
 use Rattle.traffic_core.specs.Answers.{greatest_weight}
 use Rattle.script_text.specs.declared.reply.Reply.{Reply}
 use Rattle.script_text.specs.declared.reply.Reply.TheVariants as reply
 use Rattle.script_text.specs.Replies.{reply_text}
+use Rattle.map_roads.specs.Opening.{opening_network, IsBoundBetween}
 use Rattle.query_lines.specs.declared.queries.TowerQuery.{TowerQuery}
 
 -- what queries run over: roads, the restrictions of their map, a table of those that count, and what guides searches
@@ -31,18 +28,6 @@ pub record TurnRoads : Type 0 where
   pub turns : List Turn
   pub table : Table
   pub guide : Option Preparation
-
--- the roads as their first profile weighs them at the limits that they open with
-abbrev pub opening_network : Land → Network
-opening_network land = network_at land 0 (opening_of land.graph)
-
--- from tower to tower over them
-abbrev pub opening_trip : Land → NodeId → NodeId → Trip
-opening_trip land from to = trip_by (rule_alone (profile_at land.profiles 0)) (opening_of land.graph) land.graph (Tower from) (Tower to)
-
--- the bound that guides a search between two towers: that of the landmarks that are active there, or 0 where nothing guides
-abbrev pub IsBoundBetween : Land → NodeId → NodeId → Option Preparation → (ℕ → Option ℕ) → Type 0
-IsBoundBetween land from to guide bound = IsBoundOf land (opening_trip land from to) (Tower from) (Tower to) guide bound
 
 -- the roads that the restrictions speak of
 abbrev pub streets_of : TurnRoads → Streets
@@ -110,6 +95,10 @@ pub record IsRightHere (from to : NodeId) (said : Reply) : Type 0 where
   pub here : from.0 ≡ to.0
   pub said_is : said ≡ reply.Route 0 0 0 []
 
+-- what is right between two towers
+abbrev pub IsRightTo : TurnRoads → NodeId → NodeId → Reply → Type 0
+IsRightTo roads from to said = IsRightHere from to said ⊎ IsRightApart roads from to said
+
 -- a tower of the first id, and no tower of the second
 pub record IsMissingEnd (land : Land) (query : TowerQuery) (said : Reply) : Type 0 where
   pub from : ℕ
@@ -123,7 +112,7 @@ pub record IsRightBetween (roads : TurnRoads) (query : TowerQuery) (said : Reply
   pub to : NodeId
   pub from_is : IsTower roads.land query.from from.0
   pub to_is : IsTower roads.land query.to to.0
-  pub right : IsRightHere from to said ⊎ IsRightApart roads from to said
+  pub right : IsRightTo roads from to said
 
 -- which reply answers a query: that the first id is no tower's, or the second is none, or what is right between the two
 abbrev pub IsRight : TurnRoads → TowerQuery → Reply → Type 0

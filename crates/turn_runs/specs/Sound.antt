@@ -1,24 +1,16 @@
 -- Private: what the search for a line is given and comes to, and what the struct that answers keeps.
-use Rattle.std.specs.Prelude.{◌<◌, ℕ, length, Option, Some, None, nat_lt, if◌then◌else◌}
+use Rattle.std.specs.Prelude.{◌<◌, ℕ, length, nat_lt, if◌then◌else◌}
 use Rattle.std.specs.List.{sum_by}
 use Rattle.base_graph.specs.Graphs.{Graph, IsGraph}
 use Rattle.alt_search.specs.declared.finding.Found.{Found}
 use Rattle.alt_search.specs.declared.finding.Found.TheVariants as found
-use Rattle.landmark_prep.specs.Preparations.{Preparation}
-use Rattle.landmark_prep.specs.declared.making.Made.{Made}
-use Rattle.landmark_prep.specs.declared.making.Made.TheVariants as made
 use Rattle.turn_graph.specs.Tables.{IsFor, IsTableOf}
 use Rattle.traffic_core.specs.Trips.{edge_mm}
 use Rattle.traffic_core.specs.Answers.{greatest_weight}
 use Rattle.script_text.specs.declared.reply.Reply.{Reply}
 use Rattle.script_text.specs.declared.reply.Reply.TheVariants as reply
-use Rattle.map_roads.specs.Cars.{IsGuideOf}
+use Rattle.map_roads.specs.Opening.{IsGuideOf}
 use Rattle.turn_runs.specs.Lines.{TurnRoads, streets_of}
-
--- the preparation that was made, or none
-abbrev pub guide_of : Made → Option Preparation
-guide_of (made.Prep prep) = Some prep
-guide_of made.NoLandmark = None
 
 -- what a finding comes to: the mm are those of the edges
 abbrev pub reply_of : Graph → Found → Reply

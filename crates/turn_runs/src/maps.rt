@@ -6,16 +6,12 @@ ghost use Rattle.gh_base.specs.Causes.{Rose};
 ghost use Rattle.traffic_core.specs.Lands.{AreAsLong};
 ghost use Rattle.map_roads.specs.Statuses.{IsShortMap, MapSays, IsOfReading, IsOfMap};
 ghost use Rattle.map_roads.specs.Reading.{AreRoadsAndWays};
-ghost use Rattle.map_roads.specs.Cars.{FewSay, AreFewOfPrep};
 ghost use Rattle.turn_runs.specs.Turns.{turns_in};
-ghost use Rattle.turn_runs.specs.Runs.{IsOfTurnMap};
 
 use crate::turns::read_turns;
 use gh_base::{Files, Form, IdList, SureSource, TakeFault, read_whole};
 use map_import::Roads;
-use map_roads::{
-    MOST_LABELS, Quantity, RoadsAndWays, Status, Which, are_few_for, read_map, roads_and_ways_of,
-};
+use map_roads::{Quantity, RoadsAndWays, Status, Which, read_map, roads_and_ways_of};
 use std::alloc::Global;
 use turn_graph::TurnList;
 
@@ -75,41 +71,24 @@ fn roads_in(alloc: Global, bytes: &[u8], form: Form) -> Result<RoadsAndWays, Sta
     ensures read { IsErrOf result (Status.ReadFault Which.Map) → ⊥ }
 {
     let mut source = SureSource::new(bytes, STEP);
-    let map = match read_map(alloc, &mut source, form) {
-        Ok(map) => map,
-        Err(status) => return Err(status),
-    };
+    let map = read_map(alloc, &mut source, form)?;
     roads_and_ways_of(alloc, &map)
 }
 
-/// The roads, ways and restrictions of a map's bytes in a form, where so many landmarks have few labels.
-fn turn_map_in(alloc: Global, bytes: &[u8], form: Form, count: u32) -> Result<TurnMap, Status>
-    requires { IsShortMap bytes.now }
+/// The roads, ways and restrictions of a map's bytes in a form.
+fn turn_map_in(alloc: Global, bytes: &[u8], form: Form) -> Result<TurnMap, Status>
     ensures roads { IfOk result (λ map. AreRoadsAndWays form bytes.now map.roads map.ways) }
     ensures turns { IfOk result (λ map. map.turns ≡ turns_in form bytes.now) }
     ensures ids { IfOk result (λ map. length map.roads.ids ≡ length map.roads.graph.lists.places) }
     ensures many { IfOk result (λ map. length map.ways ≡ length map.roads.graph.lists.edges) }
-    ensures few { IfOk result (λ _. AreFewOfPrep form bytes.now count) }
     ensures err { IfErr result (λ status. MapSays status form bytes.now) }
-    ensures labels { IfErr result (λ status. FewSay status form bytes.now count) }
-    ensures early { IfErr result IsOfTurnMap }
+    ensures early { IfErr result IsOfMap }
     ensures open { IsErrOf result Status.OpenFault → ⊥ }
     ensures read { IsErrOf result (Status.ReadFault Which.Map) → ⊥ }
 {
-    let RoadsAndWays { roads, ways } = match roads_in(alloc, bytes, form) {
-        Ok(read) => read,
-        Err(status) => return Err(status),
-    };
-    if !are_few_for(&roads, count) {
-        return Err(Status::TooLarge {
-            what: Quantity::Labels,
-            limit: MOST_LABELS,
-        });
-    }
-    match read_turns(alloc, bytes, form) {
-        Ok(turns) => Ok(TurnMap { roads, ways, turns }),
-        Err(_) => Err(Status::NoMemory),
-    }
+    let RoadsAndWays { roads, ways } = roads_in(alloc, bytes, form)?;
+    let turns = read_turns(alloc, bytes, form)?;
+    Ok(TurnMap { roads, ways, turns })
 }
 
 /// Reads the file of a name once, and of its bytes the roads, ways and restrictions.
@@ -118,29 +97,23 @@ pub(crate) fn read_turn_map<F: Files>(
     files: &mut F,
     name: &str,
     form: Form,
-    count: u32,
 ) -> Result<TurnMap, Status>
     ensures map { IfOk result (λ map. IfSome (F.holds files.old name.now) (λ held.
-        AreRoadsAndWays form held map.roads map.ways × (map.turns ≡ turns_in form held)
-        × AreFewOfPrep form held count × IsShortMap held)) }
+        IsShortMap held × AreRoadsAndWays form held map.roads map.ways
+        × (map.turns ≡ turns_in form held))) }
     ensures lengths { IfOk result (λ map. AreAsLong map.roads.graph.lists) }
     ensures distinct { IfOk result (λ map. IsDistinct int_eq map.roads.ids) }
     ensures ids { IfOk result (λ map. length map.roads.ids ≡ length map.roads.graph.lists.places) }
     ensures many { IfOk result (λ map. length map.ways ≡ length map.roads.graph.lists.edges) }
     ensures err { IfErr result (λ status. IfSome (F.holds files.old name.now)
         (MapSays status form)) }
-    ensures labels { IfErr result (λ status. IfSome (F.holds files.old name.now) (λ held.
-        FewSay status form held count)) }
-    ensures early { IfErr result IsOfTurnMap }
+    ensures early { IfErr result IsOfMap }
     ensures open { IsErrOf result Status.OpenFault → let mark = F.mark_of files.old name.now in
         Rose (F.failed_brings files.old mark) (F.failed_brings files.new mark) }
     ensures read { IsErrOf result (Status.ReadFault Which.Map) →
         let mark = F.mark_of files.old name.now in
         Rose (F.failed_takes files.old mark) (F.failed_takes files.new mark) }
 {
-    let bytes = match bring_bytes(alloc, files, name) {
-        Ok(bytes) => bytes,
-        Err(status) => return Err(status),
-    };
-    turn_map_in(alloc, &bytes, form, count)
+    let bytes = bring_bytes(alloc, files, name)?;
+    turn_map_in(alloc, &bytes, form)
 }

@@ -1,5 +1,5 @@
 //! The walk over the node where both sides meet.
-ghost use Rattle.std.specs.Prelude.{◌≡◌, ◌+◌, ℕ, Option, Some, List, IsSome, IfOk};
+ghost use Rattle.std.specs.Prelude.{◌≡◌, ◌+◌, ℕ, Option, Some, List, length, IsSome, IfOk};
 ghost use Rattle.gh_base.specs.Networks.{Network};
 ghost use Rattle.walk_rules.specs.Walks.{IsWalk, weight_of};
 ghost use Rattle.alt_search.specs.declared.reach.Reach.{Reach};
@@ -27,7 +27,8 @@ pub fn walk_over(
         IsTurned out back → IsTree out bound start settled forward.now keys →
         IsTree back other target count backward.now rest →
         reach_at forward.now node.0 ≡ Some here → reach_at backward.now node.0 ≡ Some there →
-        IsWalk out start hops target × (weight_of hops ≡ here.weight + there.weight)) }
+        IsWalk out start hops target × (weight_of hops ≡ here.weight + there.weight)
+        × (length hops ≡ here.depth + there.depth)) }
 {
     let mut hops = walk_to(alloc, forward, node)?;
     let mut at = node;

@@ -1,5 +1,5 @@
 //! The search from both ends.
-ghost use Rattle.std.specs.Prelude.{◌≡◌, ◌+◌, ◌^◌, ◌<◌, ◌≤◌, ◌↔◌, ◌⊎◌, IfOk};
+ghost use Rattle.std.specs.Prelude.{◌≡◌, ◌+◌, ◌^◌, ◌<◌, ◌≤◌, ◌↔◌, ◌⊎◌, [], length, IfOk};
 ghost use Rattle.walk_rules.specs.Walks.{IsWalk, weight_of, IsAtMostEachWalk, NoWalk};
 ghost use Rattle.walk_rules.specs.Potentials.{IsFeasible};
 ghost use Rattle.walk_rules.specs.Turned.{IsTurned};
@@ -85,6 +85,12 @@ pub fn search_both<V: RoadView, W: RoadView, P: Potential, Q: Potential>(
         (NeedsNoSearch (P.bound ahead.now) (Q.bound behind.now) start.0 target.0 → ⊥) →
         StartsOnBothSides (V.network out.old) (W.network back.old) (P.bound ahead.now)
         (Q.bound behind.now) start.0 target.0 (forward_of both) (backward_of both)) }
+
+    // A walk has no more hops than there were starts. To the start itself it has none.
+    ensures long { IfOk result (λ both. IfWalk both (λ hops _.
+        length hops ≤ forward_of both + backward_of both)) }
+    ensures empty { start.0 ≡ target.0 →
+        IfOk result (λ both. IfWalk both (λ hops _. hops ≡ [])) }
 {
     if start.0 == target.0 {
         return Ok(Both::Walk {

@@ -21,4 +21,4 @@ returns g c =
     (IsFeasible base inner c.args.to.0) c.search.result
     c.new-view.ensures.network c.new-potential.ensures.is (ap (λ (n : ℕ). 2 * n) c.edge_count-start.ensures) (ap (λ (n : ℕ). 2 * n + 1) c.edge_count-start.ensures)
     (λ f. feasible_by_states (trip_by base graph table c.args.from.0 c.args.to.0) c.requires.over inner f)
-    c.search.ensures.walk c.search.ensures.least c.search.ensures.none c.search.ensures.within c.search.ensures.all
+    c.search.ensures.walk c.search.ensures.long c.search.ensures.least c.search.ensures.none c.search.ensures.within c.search.ensures.all

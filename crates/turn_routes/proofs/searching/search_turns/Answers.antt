@@ -6,7 +6,7 @@ use Rattle.turn_graph.specs.States.{trip_by, by_states, start_in, target_in}
 use Rattle.turn_graph.specs.Bounds.{bound_by}
 use Rattle.turn_graph.proofs.Passing.{walks_are}
 use Rattle.turn_routes.specs.Unstated.{IsByTowers}
-use Rattle.turn_routes.proofs.Routes.{found_walk, found_least, found_none, found_over}
+use Rattle.turn_routes.proofs.Routes.{found_walk, found_least, found_none, found_over, found_long}
 use Rattle.turn_routes.proofs.searching.search_turns.Goals as goal
 
 pub returns-then-from-to-clause-none : goal.returns-then-from-to-clause-none
@@ -59,4 +59,14 @@ returns-clause-none g c = λ ids all is f.
     (by_states (trip_by base graph table c.args.from.0 c.args.to.0)) (start_in graph) (target_in graph)
     (walks_are base graph table c.args.from.0 c.args.to.0 ids all c.args.graph.now.facts c.requires.over c.if-from-to.false is)
     (bound_by inner graph c.args.from.0) (IsFeasible base inner c.args.to.0) c.in_ok-found.found out c.in_ok-found.ensures b f)
+    c.by_towers.ensures
+
+pub returns-clause-long : goal.returns-clause-long
+returns-clause-long g c =
+    let base = g.V.RoadView.network c.args.base in
+    let graph = c.args.graph.now.lists in
+    let inner = g.P.Potential.bound c.args.inner in
+    IfOk-weaker c.by_towers.result (IsByTowers graph c.in_ok-found.found) _
+    (λ out b. found_long graph (by_states (trip_by base graph c.args.turns.now c.args.from.0 c.args.to.0)) (bound_by inner graph c.args.from.0) (start_in graph) (target_in graph)
+    (IsFeasible base inner c.args.to.0) c.in_ok-found.found out c.in_ok-found.ensures b)
     c.by_towers.ensures

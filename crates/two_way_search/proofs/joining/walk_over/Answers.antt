@@ -14,7 +14,8 @@ loop-step-init c = record {
       let walk = c.in_ok-hops.ensures out (spare c.args.forward.now keys) start settled keys first (as_plain t) f in
       let same : there ≡ at = cc in
       let weighs : there.weight ≡ at.weight = ap (λ (r : Reach). r.weight) same in
-      (walk.0, let w = walk.1 in omega arith);
+      let deep : there.depth ≡ at.depth = ap (λ (r : Reach). r.depth) same in
+      (walk.0, let w = walk.1 in omega arith, let d = walk.2 in omega arith);
 }
 
 pub loop-step-smaller : goal.loop-step-smaller
@@ -26,11 +27,11 @@ loop-step-preserved c = record {
   walk = λ out back bound other start target settled count keys rest first there at turned t u f b a.
       let here = some_of (reach_at c.args.backward.now c.loop-step.at.0) c.loop-step.invariant.here in
       let so_far = c.loop-step.invariant.walk out back bound other start target settled count keys rest first there here.0 turned t u f b here.1 in
-      join_step turned u c.loop-step.at.0 here.0 at c.in-Some.step here.1 (sym (c.last_step.ensures here.0 here.1) ∙ c.in-Some.is) a c.loop-step.hops c.push.new.self c.in_ok-push.ensures.ok start (first.weight + there.weight) so_far.0 so_far.1;
+      join_step turned u c.loop-step.at.0 here.0 at c.in-Some.step here.1 (sym (c.last_step.ensures here.0 here.1) ∙ c.in-Some.is) a c.loop-step.hops c.push.new.self c.in_ok-push.ensures.ok start (first.weight + there.weight) (first.depth + there.depth) so_far.0 so_far.1 so_far.2;
 }
 
 pub returns : goal.returns
 returns c = λ out back bound other start target settled count keys rest first there turned t u f b.
     let here = some_of (reach_at c.args.backward.now c.loop-step.at.0) c.loop-step.invariant.here in
     let so_far = c.loop-step.invariant.walk out back bound other start target settled count keys rest first there here.0 turned t u f b here.1 in
-    join_end turned u c.loop-step.at.0 here.0 here.1 (sym (c.last_step.ensures here.0 here.1) ∙ c.in_default.is) c.loop-step.hops start (first.weight + there.weight) so_far.0 so_far.1
+    join_end turned u c.loop-step.at.0 here.0 here.1 (sym (c.last_step.ensures here.0 here.1) ∙ c.in_default.is) c.loop-step.hops start (first.weight + there.weight) (first.depth + there.depth) so_far.0 so_far.1 so_far.2

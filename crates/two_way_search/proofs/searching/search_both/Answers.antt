@@ -1,4 +1,4 @@
-use Rattle.std.proofs.Common.{[], sym, ◌∙◌}
+use Rattle.std.proofs.Common.{[], sym, ◌∙◌, arith}
 use Rattle.two_way_search.proofs.Facing.{opposed, left_there}
 use Rattle.two_way_search.proofs.Trees.{chain_of}
 use Rattle.two_way_search.proofs.Ends.{walk_through, none_met, met_least, met_at, starts_on_both, left_missing, none_ahead, none_behind}
@@ -47,6 +47,17 @@ returns-clause-walk g c =
     let m = met_at o sides end.ended c.in-Some-met.best c.in-Some-met.is in
     let walk = c.in_ok-hops.ensures _ _ _ _ c.args.start.0 c.args.target.0 _ _ sides.first.open_keys sides.second.open_keys m.0 m.1 c.requires.turned sides.first.underway.tree sides.second.underway.tree m.2 m.3 in
     (walk.0, walk.1 ∙ sym m.4)
+
+pub returns-clause-long : goal.returns-clause-long
+returns-clause-long g c =
+    let o = opposed c.requires.turned c.requires.ahead c.requires.behind in
+    let end = c.in_ok-sides.ensures in
+    let sides = end.sides in
+    let m = met_at o sides end.ended c.in-Some-met.best c.in-Some-met.is in
+    let walk = c.in_ok-hops.ensures _ _ _ _ c.args.start.0 c.args.target.0 _ _ sides.first.open_keys sides.second.open_keys m.0 m.1 c.requires.turned sides.first.underway.tree sides.second.underway.tree m.2 m.3 in
+    let near = sides.first.underway.tree.small _ m.0 m.2 in
+    let far = sides.second.underway.tree.small _ m.1 m.3 in
+    omega (arith, walk.2, near.0, far.0)
 
 pub returns-clause-least : goal.returns-clause-least
 returns-clause-least g c =

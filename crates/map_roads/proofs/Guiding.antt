@@ -27,7 +27,7 @@ use Rattle.landmark_prep.specs.Laws.{PreparationsFit, NodesAreLabelled}
 use Rattle.traffic_core.specs.Lands.{Land, rule_alone}
 use Rattle.traffic_core.specs.History.{limit_in}
 use Rattle.traffic_core.specs.Truth.{IsPrepAt, network_at}
-use Rattle.turn_runs.specs.Lines.{opening_network}
+use Rattle.map_roads.specs.Opening.{opening_network}
 
 -- what starts at a node starts at a tower
 tower_of : (graph : Graph) (node : ℕ) (by : DirEdge) → IsGraph graph → Contains (around_of graph node) by → node < length graph.places

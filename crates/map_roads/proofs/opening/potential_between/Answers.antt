@@ -1,5 +1,5 @@
-use Rattle.turn_runs.proofs.Guided.{feasible_between}
-use Rattle.turn_runs.proofs.answers.potential_between.Goals as goal
+use Rattle.map_roads.proofs.Guiding.{feasible_between}
+use Rattle.map_roads.proofs.opening.potential_between.Goals as goal
 
 pub returns-clause-feasible : goal.returns-clause-feasible
 returns-clause-feasible c =

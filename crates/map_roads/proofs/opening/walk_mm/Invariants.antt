@@ -1,7 +1,7 @@
 use Rattle.std.specs.List.{sum_by}
 use Rattle.std.proofs.Common.{◌≡◌, ◌≤◌, ◌*◌, ◌-◌, ◌^◌, take}
 use Rattle.traffic_core.specs.Trips.{edge_mm}
-use Rattle.turn_runs.proofs.answers.whole_mm.Given as goal
+use Rattle.map_roads.proofs.opening.walk_mm.Given as goal
 
 -- an edge has less than 2^32 mm
 abbrev pub invariant-loop-hop : goal.invariant-loop-hop
