@@ -1,4 +1,3 @@
-pub mod Opening
-pub mod Views
-pub mod Answered
-pub mod OverMaps
+mod Opening
+mod Views
+mod Told

@@ -15,7 +15,7 @@ use Rattle.weighting.specs.Rules.{Rule, rule_of}
 use Rattle.weighting.specs.Roads.{AreOver, network_of, opening_of}
 use Rattle.weighting.specs.RoadFacts.{walk_over}
 use Rattle.traffic_core.specs.Lands.{Land, rule_alone}
-use Rattle.both_runs.specs.Guided.{opening_network}
+use Rattle.map_roads.specs.Opening.{opening_network}
 
 pub turned_as : {out home one other : Network} → out ≡ one → home ≡ other → IsTurned one other → IsTurned out home
 turned_as {out} {home} {one} {other} same also turned =

@@ -53,11 +53,15 @@ pub flat_feasible : (network : Network) (target : ℕ) → IsFeasible network fl
 flat_feasible network target = record { at_target = refl; along = λ node hop c s y e. (0, refl, omega arith) }
 
 module _ (land : Land) (prep : Preparation) (count : ℕ) (at : IsPrepAt land [] 0 count prep) where
-  labelled : NodesAreLabelled → nodes_of prep.labels ≡ length land.graph.places
+  pub labelled : NodesAreLabelled → nodes_of prep.labels ≡ length land.graph.places
   labelled nodes = nodes (network_at land 0 (limit_in prep.snapshot)) count prep at.is_prep
 
   above : AreNowhereAbove land.graph (opening_of land.graph) (limit_in prep.snapshot)
   above by there = let e : limit_in prep.snapshot by ≡ opening_of land.graph by = at.snapshot.each by in omega (arith, e)
+
+  -- no hop is faster than at the limits of the preparation
+  pub no_faster : IsGraph land.graph → NoHopIsFaster → IsNoFaster (network_at land 0 (limit_in prep.snapshot)) (opening_network land)
+  no_faster facts falls = falls Out (rule_alone (profile_at land.profiles 0)) land.graph (opening_of land.graph) (limit_in prep.snapshot) tt facts above
 
   pub feasible_between : IsGraph land.graph → NodesAreLabelled → PreparationsFit → NoHopIsFaster → (to : NodeId) (bound : ℕ → Option ℕ)
       → ((base network : Network) (leave : Leave) (direct : List (Option Hop)) → AreFit base prep → IsNoFaster base network → LeadsToNodes network → network.nodes ≡ nodes_of prep.labels
@@ -70,5 +74,5 @@ module _ (land : Land) (prep : Preparation) (count : ℕ) (at : IsPrepAt land []
       let fit = fits base count prep at.is_prep in
       alone_feasible (opening_network land) bound (FromNode to) to []
       (λ node hop c. each_hop Out rule limits land.graph node (λ (h : Hop). node < length land.graph.places) (λ by b. tower_of land.graph node by facts b) hop c)
-      (feasible base (opening_network land) (FromNode to) [] fit (falls Out rule land.graph limits (limit_in prep.snapshot) tt facts above)
+      (feasible base (opening_network land) (FromNode to) [] fit (no_faster facts falls)
       (leads_to_nodes Out rule limits land.graph facts) (sym (labelled nodes)))

@@ -1,1 +1,3 @@
 mod Answers
+mod Told
+pub mod OverMaps
