@@ -10,12 +10,16 @@ use Rattle.map_roads.specs.declared.status.Status.TheVariants as status
 use Rattle.map_roads.specs.declared.status.Quantity.TheVariants as quantity
 use Rattle.map_roads.specs.Statuses.{IsShortMap, IsMap, MapSays}
 use Rattle.map_roads.specs.Reading.{AreRoadsRead}
-use Rattle.map_roads.specs.Cars.{car_land, size_of, AreCarsIn, AreFewOfPrep, FewSay, IsTooMany}
+use Rattle.map_roads.specs.Cars.{car_land, size_of, OfCars, AreCarsIn, AreFewOfPrep, FewSay, IsTooMany}
 use Rattle.map_roads.proofs.Few.{few_of, many_of}
 
 -- roads of the map, where its bytes are told
 abbrev pub AreRead : Form → Option (List ℕ) → Roads → Type 0
 AreRead form holds found = IfSome holds (λ held. IsShortMap held × AreRoadsRead form held found)
+
+-- a fact of roads of cars is one of the map's
+pub of_cars : (Stands : Land → Type 0) {form : Form} {held : List ℕ} {land : Land} → AreCarsIn form held land → Stands land → OfCars Stands form held
+of_cars Stands cars stands = record { found = cars.found; are = cars.are; stands = subst Stands cars.stands stands }
 
 -- a fact of both statuses of a count that is refused
 of_counted : (Stands : Status → Type 0) (labels : ℕ) → Stands status.NoMemory → (150000000 < labels → Stands (status.TooLarge quantity.Labels 150000000)) → (s : Status) → IsTooMany labels s → Stands s

@@ -44,7 +44,7 @@ pub fn cars_of(alloc: Global, roads: Roads, count: u32) -> Result<Ground, Status
     requires lengths { AreAsLong roads.graph.lists }
     requires ids { length roads.ids ≡ length roads.graph.lists.places }
     requires distinct { IsDistinct int_eq roads.ids }
-    ensures cars { IfOk result (λ ground. ground ≡ car_land roads) }
+    ensures cars { IfOk result (λ made. made ≡ car_land roads) }
     ensures few { IfOk result (λ _. count * size_of (car_land roads) ≤ 150000000) }
     ensures many { IfErr result (IsTooMany (count * size_of (car_land roads))) }
 {
@@ -66,9 +66,9 @@ pub fn read_cars<F: Files>(
     form: Form,
     count: u32,
 ) -> Result<Ground, Status>
-    ensures cars { IfOk result (λ ground. IfSome (F.holds files.old name.now) (λ held.
-        AreCarsIn form held ground)) }
-    ensures there { IfOk result (λ ground. 0 < length ground.profiles) }
+    ensures cars { IfOk result (λ made. IfSome (F.holds files.old name.now) (λ held.
+        AreCarsIn form held made)) }
+    ensures there { IfOk result (λ made. 0 < length made.profiles) }
     ensures map { IfOk result (λ _. IfSome (F.holds files.old name.now) (IsMap form)) }
     ensures few { IfOk result (λ _. IfSome (F.holds files.old name.now) (λ held.
         AreFewOfPrep form held count)) }

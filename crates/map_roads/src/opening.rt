@@ -10,9 +10,7 @@ ghost use Rattle.map_roads.specs.Opening.{opening_network, guide_of, IsGuideOf, 
 
 use base_graph::BaseGraph;
 use gh_base::{Hop, NoMemory, NodeId, Potential};
-use landmark_prep::{
-    Goal, LandmarkPotential, Made, Prep, preparations_are_one, preparations_fit,
-};
+use landmark_prep::{Goal, LandmarkPotential, Made, Prep, preparations_are_one, preparations_fit};
 use std::alloc::Global;
 use std::thread::Threads;
 use traffic_core::{Ground, RoadState};

@@ -1,74 +1,88 @@
 -- Facts of the roads of cars, where the map's bytes are told; and that nothing but want of memory keeps a preparation and a check from their ends.
-use Rattle.std.proofs.Common.{◌≡◌, true, refl, subst, ℕ, ◌*◌, List, Option, Some, None, inl, inr, ◌⊎◌, arith}
+use Rattle.std.proofs.Common.{◌≡◌, true, refl, subst, ℕ, List, [], Option, Some, None, inl, inr, ◌⊎◌, arith}
 use Rattle.std.specs.Prelude.{IfSome}
 use Rattle.std.specs.Io.KnownBytes.{Appends, Keeps}
 use Rattle.gh_base.specs.Causes.{Rose, AppendsFront}
 use Rattle.gh_base.specs.declared.kinds.Form.{Form}
 use Rattle.map_import.specs.declared.roads.Roads.{Roads}
 use Rattle.traffic_core.specs.Lands.{Land}
+use Rattle.traffic_core.specs.Truth.{IsNoPrepAt}
 use Rattle.landmark_prep.specs.Preparations.{Preparation}
 use Rattle.prep_store.specs.Stores.{IsStored}
 use Rattle.prep_store.specs.FirstFaults.{is_of_bytes, IsFirstFault}
 use Rattle.prep_store.specs.declared.fault.PrepFault.{PrepFault}
 use Rattle.prep_store.specs.declared.fault.PrepFault.TheVariants as fault
-use Rattle.map_roads.specs.Cars.{size_of}
 use Rattle.map_roads.specs.Reading.{AreRoadsRead}
-use Rattle.map_roads.specs.Statuses.{IsShortMap, IsMap, MapSays, IsCalm, IsDoneOrNoMemory}
-use Rattle.prep_runs.specs.Statuses.{IsOfPrep, IsOfCheck, IsOfStore, status_of_store}
-use Rattle.map_roads.specs.Cars.{car_land, OfCars, AreFewOfPrep}
-use Rattle.prep_runs.specs.Preps.{Stores, StoresFront, Preps, PrepsFront, PrepsPart, PrepSays, PrepSaysOf, IsChecked, StoreSays, StoreSaysOf, HasNoFault, Checks, ChecksFront, ChecksPart, checked_text}
+use Rattle.map_roads.specs.Statuses.{IsMap, MapSays, IsCalm, IsDoneOrNoMemory, IsOfCars}
+use Rattle.prep_runs.specs.Statuses.{IsOfPrep, IsOfPreparing, IsOfCheck, IsOfStore, status_of_store}
+use Rattle.map_roads.specs.Cars.{car_land, AreCarsIn, AreFewOfPrep, FewSay}
+use Rattle.map_roads.specs.Written.{Writes, WritesFront}
+use Rattle.map_roads.proofs.Counted.{AreRead, of_cars}
+use Rattle.prep_runs.specs.Preps.{IsStoreAt, StoresFront, IsPrepText, PrepsFront, PrepsPart, PrepSays, IsChecked, IsCheckText, StoreSays, StoreSaysOf, HasNoFault, checked_text}
 use Rattle.map_roads.proofs.OneMap.{no_fault}
-use Rattle.map_roads.proofs.Few.{asks, few_or_many}
+use Rattle.map_roads.proofs.Few.{few_or_many}
 use Rattle.map_roads.specs.declared.status.Status.{Status}
 use Rattle.map_roads.specs.declared.status.Status.TheVariants as status
 use Rattle.map_roads.specs.declared.status.Which.TheVariants as which
 use Rattle.map_roads.specs.declared.status.Quantity.TheVariants as quantity
 
--- roads of the map, where its bytes are told
-abbrev AreRead : Form → Option (List ℕ) → Roads → Type 0
-AreRead form holds found = IfSome holds (λ held. IsShortMap held × AreRoadsRead form held found)
+-- what is written over the roads of cars of a map that was read is so of the map
+module _ (form : Form) (count : ℕ) (land : Land) (old new : Option (List ℕ)) where
+  pub stored_behind : (holds : Option (List ℕ)) → IfSome holds (λ held. AreCarsIn form held land) → Writes (λ text. IsStoreAt count text land) old new
+      → IfSome holds (λ held. Writes (IsPrepText form held count) old new)
+  stored_behind None cars written = tt
+  stored_behind (Some held) cars written = (written.0, of_cars (IsStoreAt count written.0) cars written.1, written.2)
 
-abbrev of_cars : (P : Land → Type 0) (form : Form) (held : List ℕ) (found : Roads) → AreRoadsRead form held found → P (car_land found) → OfCars P form held
-of_cars P form held found are stands = record { found = found; are = are; stands = stands }
+  pub front_behind : (holds : Option (List ℕ)) → IfSome holds (λ held. AreCarsIn form held land) → StoresFront count old new land → IfSome holds (λ held. PrepsFront form held count old new)
+  front_behind None cars written = tt
+  front_behind (Some held) cars written = of_cars (StoresFront count old new) cars written
 
-pub stored_behind : (form : Form) (count : ℕ) (holds old new : Option (List ℕ)) (found : Roads) → AreRead form holds found → Stores count old new (car_land found)
-    → IfSome holds (λ held. Preps form held count old new)
-stored_behind form count None old new found read written = tt
-stored_behind form count (Some held) old new found read written = of_cars (Stores count old new) form held found read.1 written
+  pub part_behind : (holds : Option (List ℕ)) → IfSome holds (λ held. AreCarsIn form held land) → StoresFront count old new land ⊎ Keeps old new
+      → IfSome holds (λ held. PrepsPart form held count old new)
+  part_behind None cars part = tt
+  part_behind (Some held) cars (inl front) = inl (of_cars (StoresFront count old new) cars front)
+  part_behind (Some held) cars (inr keeps) = inr keeps
 
-pub front_behind : (form : Form) (count : ℕ) (holds old new : Option (List ℕ)) (found : Roads) → AreRead form holds found → StoresFront count old new (car_land found)
-    → IfSome holds (λ held. PrepsFront form held count old new)
-front_behind form count None old new found read written = tt
-front_behind form count (Some held) old new found read written = of_cars (StoresFront count old new) form held found read.1 written
+-- what preparing says of labels and landmarks
+says : (s : Status) (form : Form) (held : List ℕ) (count : ℕ) (land : Land) → AreCarsIn form held land → AreFewOfPrep form held count → IsOfPreparing s
+    → (s ≡ status.NoLandmark → IsNoPrepAt land [] 0) → PrepSays s form held count
+says status.Done form held count land cars few of none = few
+says status.WriteFault form held count land cars few of none = few
+says status.NoLandmark form held count land cars few of none = (few, of_cars (λ (l : Land). IsNoPrepAt l [] 0) cars (none refl))
+says status.NoMemory form held count land cars few of none = tt
+says status.Usage form held count land cars few of none = absurd of
+says status.OpenFault form held count land cars few of none = absurd of
+says (status.ReadFault what) form held count land cars few of none = absurd of
+says (status.BadMap fault) form held count land cars few of none = absurd of
+says (status.BadScript line byte kind) form held count land cars few of none = absurd of
+says (status.TooLarge what limit) form held count land cars few of none = absurd of
+says (status.BadPrep fault) form held count land cars few of none = absurd of
 
-pub part_behind : (form : Form) (count : ℕ) (holds old new : Option (List ℕ)) (found : Roads) → AreRead form holds found → StoresFront count old new (car_land found) ⊎ Keeps old new
-    → IfSome holds (λ held. PrepsPart form held count old new)
-part_behind form count None old new found read part = tt
-part_behind form count (Some held) old new found read (inl front) = inl (of_cars (StoresFront count old new) form held found read.1 front)
-part_behind form count (Some held) old new found read (inr keeps) = inr keeps
+pub prep_says : (s : Status) (form : Form) (holds : Option (List ℕ)) (count : ℕ) (land : Land) → IfSome holds (λ held. AreCarsIn form held land) → IfSome holds (λ held. AreFewOfPrep form held count)
+    → IsOfPreparing s → (s ≡ status.NoLandmark → IsNoPrepAt land [] 0) → IfSome holds (λ held. PrepSays s form held count)
+prep_says s form None count land cars few of none = tt
+prep_says s form (Some held) count land cars few of none = says s form held count land cars few of none
 
-says : (s : Status) (form : Form) (held : List ℕ) (count : ℕ) (found : Roads) → AreRoadsRead form held found → PrepSaysOf s (car_land found) count (count * size_of (car_land found)) → PrepSays s form held count
-says status.Done form held count found read few = (count * size_of (car_land found), asks form held count found read, few)
-says status.WriteFault form held count found read few = (count * size_of (car_land found), asks form held count found read, few)
-says status.NoLandmark form held count found read both =
-    ((count * size_of (car_land found), asks form held count found read, both.0), record { found = found; are = read; stands = both.1 })
-says (status.TooLarge quantity.Labels limit) form held count found read many =
-    (many.0, (count * size_of (car_land found), asks form held count found read, omega (arith, many.0, many.1)))
-says status.Usage form held count found read said = tt
-says status.NoMemory form held count found read said = tt
-says status.OpenFault form held count found read said = tt
-says (status.ReadFault what) form held count found read said = tt
-says (status.BadMap fault) form held count found read said = tt
-says (status.BadScript line byte kind) form held count found read said = tt
-says (status.TooLarge quantity.Map limit) form held count found read said = tt
-says (status.TooLarge quantity.Script limit) form held count found read said = tt
-says (status.TooLarge quantity.Way limit) form held count found read said = tt
-says (status.BadPrep fault) form held count found read said = tt
+-- what reading the roads says of them
+refusal_says : (s : Status) (form : Form) (held : List ℕ) (count : ℕ) → IsOfCars s → FewSay s form held count → PrepSays s form held count
+refusal_says status.NoMemory form held count of few = tt
+refusal_says status.OpenFault form held count of few = tt
+refusal_says (status.ReadFault what) form held count of few = tt
+refusal_says (status.BadMap fault) form held count of few = tt
+refusal_says (status.TooLarge quantity.Map limit) form held count of few = tt
+refusal_says (status.TooLarge quantity.Labels limit) form held count of few = few
+refusal_says (status.TooLarge quantity.Script limit) form held count of few = absurd of
+refusal_says (status.TooLarge quantity.Way limit) form held count of few = absurd of
+refusal_says status.Done form held count of few = absurd of
+refusal_says status.WriteFault form held count of few = absurd of
+refusal_says status.NoLandmark form held count of few = absurd of
+refusal_says status.Usage form held count of few = absurd of
+refusal_says (status.BadScript line byte kind) form held count of few = absurd of
+refusal_says (status.BadPrep fault) form held count of few = absurd of
 
-pub prep_says : (s : Status) (form : Form) (holds : Option (List ℕ)) (count : ℕ) (found : Roads) → AreRead form holds found → PrepSaysOf s (car_land found) count (count * size_of (car_land found))
-    → IfSome holds (λ held. PrepSays s form held count)
-prep_says s form None count found read said = tt
-prep_says s form (Some held) count found read said = says s form held count found read.1 said
+pub prep_refused : (s : Status) (form : Form) (holds : Option (List ℕ)) (count : ℕ) → IsOfCars s → IfSome holds (λ held. FewSay s form held count) → IfSome holds (λ held. PrepSays s form held count)
+prep_refused s form None count of few = tt
+prep_refused s form (Some held) count of few = refusal_says s form held count of few
 
 preps_to_the_end : (s : Status) (form : Form) (held : List ℕ) (count : ℕ) → IsOfPrep s → MapSays s form held → PrepSays s form held count → IsMap form held → AreFewOfPrep form held count →
     (s ≡ status.OpenFault → ⊥) → (s ≡ status.ReadFault which.Map → ⊥) → (s ≡ status.WriteFault → ⊥) → IsDoneOrNoMemory s ⊎ (s ≡ status.NoLandmark)
@@ -97,26 +111,18 @@ preps_complete s form count (Some held) b c t u k l of map_says says bring read 
 
 -- what a check says, with the bytes of map and store where they are told
 pub checked_behind : (form : Form) (holds left old new : Option (List ℕ)) (found : Roads) → AreRead form holds found
-    → IfSome left (λ bytes. (text : List ℕ) × IsChecked bytes text (car_land found) × Appends old new text)
-    → IfSome holds (λ held. IfSome left (λ bytes. Checks form held bytes old new))
+    → IfSome left (λ bytes. Writes (λ text. IsChecked bytes text (car_land found)) old new)
+    → IfSome holds (λ held. IfSome left (λ bytes. Writes (IsCheckText form held bytes) old new))
 checked_behind form None left old new found read told = tt
 checked_behind form (Some held) None old new found read told = tt
-checked_behind form (Some held) (Some bytes) old new found read told = (told.0, of_cars (IsChecked bytes told.0) form held found read.1 told.1, told.2)
+checked_behind form (Some held) (Some bytes) old new found read told = (told.0, record { found = found; are = read.1; stands = told.1 }, told.2)
 
 pub checked_front : (form : Form) (holds left old new : Option (List ℕ)) (found : Roads) → AreRead form holds found
-    → IfSome left (λ bytes. (text : List ℕ) × IsChecked bytes text (car_land found) × AppendsFront old new text)
-    → IfSome holds (λ held. IfSome left (λ bytes. ChecksFront form held bytes old new))
+    → IfSome left (λ bytes. WritesFront (λ text. IsChecked bytes text (car_land found)) old new)
+    → IfSome holds (λ held. IfSome left (λ bytes. WritesFront (IsCheckText form held bytes) old new))
 checked_front form None left old new found read told = tt
 checked_front form (Some held) None old new found read told = tt
-checked_front form (Some held) (Some bytes) old new found read told = (told.0, of_cars (IsChecked bytes told.0) form held found read.1 told.1, told.2)
-
-pub checked_part : (form : Form) (holds left old new : Option (List ℕ)) (found : Roads) → AreRead form holds found
-    → IfSome left (λ bytes. ((text : List ℕ) × IsChecked bytes text (car_land found) × AppendsFront old new text) ⊎ Keeps old new)
-    → IfSome holds (λ held. IfSome left (λ bytes. ChecksPart form held bytes old new))
-checked_part form None left old new found read told = tt
-checked_part form (Some held) None old new found read told = tt
-checked_part form (Some held) (Some bytes) old new found read (inl told) = inl (told.0, of_cars (IsChecked bytes told.0) form held found read.1 told.1, told.2)
-checked_part form (Some held) (Some bytes) old new found read (inr keeps) = inr keeps
+checked_front form (Some held) (Some bytes) old new found read told = (told.0, record { found = found; are = read.1; stands = told.1 }, told.2)
 
 fault_says : (s : Status) (form : Form) (held bytes : List ℕ) (found : Roads) → AreRoadsRead form held found → StoreSaysOf s (car_land found) bytes → StoreSays s form held bytes
 fault_says (status.BadPrep fault) form held bytes found read said = record { found = found; are = read; stands = said }
@@ -220,22 +226,11 @@ module _ (land cars : Land) (same : land ≡ cars) (prep : Preparation) where
   is_checked bytes stored = record { prep = prep; stored = subst (λ (l : Land). IsStored l prep bytes) same stored; text_is = refl }
 
   pub told_of : (left old new : Option (List ℕ)) → IfSome left (IsStored land prep) → Appends old new (checked_text prep)
-      → IfSome left (λ bytes. (text : List ℕ) × IsChecked bytes text cars × Appends old new text)
+      → IfSome left (λ bytes. Writes (λ text. IsChecked bytes text cars) old new)
   told_of None old new stored written = tt
   told_of (Some bytes) old new stored written = (checked_text prep, is_checked bytes stored, written)
 
   pub front_of_told : (left old new : Option (List ℕ)) → IfSome left (IsStored land prep) → AppendsFront old new (checked_text prep)
-      → IfSome left (λ bytes. (text : List ℕ) × IsChecked bytes text cars × AppendsFront old new text)
+      → IfSome left (λ bytes. WritesFront (λ text. IsChecked bytes text cars) old new)
   front_of_told None old new stored written = tt
   front_of_told (Some bytes) old new stored written = (checked_text prep, is_checked bytes stored, written)
-
-  pub part_of_told : (left old new : Option (List ℕ)) → IfSome left (IsStored land prep) → AppendsFront old new (checked_text prep)
-      → IfSome left (λ bytes. ((text : List ℕ) × IsChecked bytes text cars × AppendsFront old new text) ⊎ Keeps old new)
-  part_of_told None old new stored written = tt
-  part_of_told (Some bytes) old new stored written = inl (checked_text prep, is_checked bytes stored, written)
-
--- nothing is told
-pub kept_of_told : (cars : Land) (left old new : Option (List ℕ)) → Keeps old new
-    → IfSome left (λ bytes. ((text : List ℕ) × IsChecked bytes text cars × AppendsFront old new text) ⊎ Keeps old new)
-kept_of_told cars None old new keeps = tt
-kept_of_told cars (Some bytes) old new keeps = inr keeps

@@ -1,4 +1,2 @@
-pub mod Guided
-pub mod Searched
-pub mod Told
-pub mod Behind
+mod Searched
+mod Told

@@ -1,54 +1,54 @@
--- What is told of a query.
-use Rattle.std.proofs.Common.{◌≡◌, ◌⊎◌, ◌++◌, ℕ, List, [], refl, sym, ap, subst, ◌∙◌, inl, inr}
-use Rattle.std.specs.Prelude.{codes}
-use Rattle.std.proofs.lemmas.List.{append_assoc}
-use Rattle.gh_base.specs.declared.edges.NodeId.{NodeId}
-use Rattle.traffic_core.specs.Lands.{Land, IsTower, IsNoTower}
-use Rattle.script_text.specs.declared.reply.Reply.{Reply}
-use Rattle.script_text.specs.declared.reply.Reply.TheVariants as reply
-use Rattle.script_text.specs.Replies.{route_text, reply_text}
-use Rattle.query_lines.specs.declared.queries.TowerQuery.{TowerQuery}
-use Rattle.turn_runs.specs.Lines.{TurnRoads, IsRightHere, IsRightApart, IsRightBetween, IsMissingEnd, IsRight, IsLineOf}
+-- What answers query lines over the roads and restrictions of a map that was read.
+use Rattle.std.proofs.Common.{◌≡◌, ℕ, ℤ, Option, Some, None, List, refl, sym, subst}
+use Rattle.std.specs.Prelude.{IfSome}
+use Rattle.gh_base.specs.declared.kinds.Form.{Form}
+use Rattle.map_import.specs.declared.roads.Roads.{Roads}
+use Rattle.landmark_prep.specs.Preparations.{Preparation}
+use Rattle.traffic_core.specs.Lands.{Land}
+use Rattle.turn_graph.specs.declared.turn.Turn.{Turn}
+use Rattle.turn_graph.specs.Tables.{Table, IsTableOf, streets_for}
+use Rattle.map_roads.specs.Statuses.{IsShortMap}
+use Rattle.map_roads.specs.Reading.{AreRoadsAndWays}
+use Rattle.map_roads.specs.Cars.{car_land}
+use Rattle.map_roads.specs.Opening.{IsGuideOf}
+use Rattle.map_roads.proofs.Counted.{AreRead}
+use Rattle.query_lines.specs.Answering.{IsAnswered}
+use Rattle.turn_runs.specs.Turns.{turns_in}
+use Rattle.turn_runs.specs.Lines.{TurnRoads, IsLineOf}
+use Rattle.turn_runs.specs.Runs.{AreTurnRoads, IsTurnText}
 
--- a text has grown by a reply of a kind
-abbrev pub Tells : (Reply → Type 0) → List ℕ → List ℕ → Type 0
-Tells IsSo old new = (said : Reply) × IsSo said × (new ≡ old ++ reply_text said)
+-- what was made of roads, ways and restrictions
+pub turn_roads : (found : Roads) (ways : List ℤ) (turns : List Turn) (count : ℕ) (land : Land) → land ≡ car_land found → (table : Table)
+    → IsTableOf (record { graph = found.graph.lists; ids = found.ids; ways = ways }) turns table → (guide : Option Preparation) → IsGuideOf land count guide
+    → (roads : TurnRoads) → roads ≡ record { land = land; turns = turns; table = table; guide = guide } → AreTurnRoads found ways turns count roads
+turn_roads found ways turns count land land_is table kept guide guides roads same =
+    let own : IsTableOf (streets_for found.graph.lists found.ids table) turns table =
+    subst (λ (w : List ℤ). IsTableOf (record { graph = found.graph.lists; ids = found.ids; ways = w }) turns table) (sym kept.ways) kept in
+    subst (λ (r : TurnRoads). AreTurnRoads found ways turns count r) (sym same) (record {
+      land_is = land_is;
+      ways_are = kept.ways;
+      turns_are = refl;
+      table_is = subst (λ (l : Land). IsTableOf (streets_for l.graph l.ids table) turns table) (sym land_is) own;
+      guides = guides;
+    })
 
--- from a tower to itself
-pub here_told : (roads : TurnRoads) (from to : NodeId) (old new : List ℕ) → from.0 ≡ to.0 → new ≡ old ++ route_text 0 0 0 []
-    → Tells (λ said. IsRightHere from to said ⊎ IsRightApart roads from to said) old new
-here_told roads from to old new here e = (reply.Route 0 0 0 [], inl (record { here = here; said_is = refl }), e)
+module _ (form : Form) (found : Roads) (ways : List ℤ) (turns : List Turn) where
+  -- they are those of the map
+  abbrev pub AreOfMap : List ℕ → Type 0
+  AreOfMap held = IsShortMap held × AreRoadsAndWays form held found ways × (turns ≡ turns_in form held)
 
--- the land is that of the roads
-module _ (roads : TurnRoads) (land : Land) (same : land ≡ roads.land) (query : TowerQuery) (old new : List ℕ) where
-  no_tower : {id : _} → IsNoTower land id → IsNoTower roads.land id
-  no_tower {id} none = subst (λ (l : Land). IsNoTower l id) same none
+  -- the roads alone
+  pub roads_read : (holds : Option (List ℕ)) → IfSome holds AreOfMap → AreRead form holds found
+  roads_read None read = tt
+  roads_read (Some held) read = (read.0, record { map = read.1.map; reads_as = read.1.reads_as; roads_are = read.1.roads_are })
 
-  pub first_missing : IsNoTower land query.from → new ≡ old ++ reply_text (reply.NoNode query.from) → Tells (IsRight roads query) old new
-  first_missing none e = (reply.NoNode query.from, inl (no_tower none, refl), e)
-
-  pub second_missing : (from : ℕ) → IsTower land query.from from → IsNoTower land query.to → new ≡ old ++ reply_text (reply.NoNode query.to) → Tells (IsRight roads query) old new
-  second_missing from is none e =
-      let missing : IsMissingEnd roads.land query (reply.NoNode query.to) =
-      record { from = from; from_is = subst (λ (l : Land). IsTower l query.from from) same is; to_is = no_tower none; said_is = refl } in
-      (reply.NoNode query.to, inr (inl missing), e)
-
-  pub between_told : (from to : NodeId) → IsTower land query.from from.0 → IsTower land query.to to.0
-      → Tells (λ said. IsRightHere from to said ⊎ IsRightApart roads from to said) old new → Tells (IsRight roads query) old new
-  between_told from to first last told =
-      let between : IsRightBetween roads query told.0 = record {
-        from = from;
-        to = to;
-        from_is = subst (λ (l : Land). IsTower l query.from from.0) same first;
-        to_is = subst (λ (l : Land). IsTower l query.to to.0) same last;
-        right = told.1;
-      } in
-      (told.0, inr (inr between), told.2)
-
--- a reply and a newline are a line
-pub line_told : (roads : TurnRoads) (query : TowerQuery) (old middle new : List ℕ) → Tells (IsRight roads query) old middle → new ≡ middle ++ codes "\n"
-    → (line : List ℕ) × IsLineOf roads query line × (new ≡ old ++ line)
-line_told roads query old middle new told e =
-    let text = reply_text told.0 ++ codes "\n" in
-    let is : IsLineOf roads query text = record { said = told.0; right = told.1; text_is = refl } in
-    (text, is, e ∙ ap (λ (t : List ℕ). t ++ codes "\n") told.2 ∙ append_assoc old (reply_text told.0) (codes "\n"))
+  pub turn_text : (count : ℕ) (roads : TurnRoads) → AreTurnRoads found ways turns count roads → (held bytes text : List ℕ) → AreOfMap held → IsAnswered (IsLineOf roads) bytes text
+      → IsTurnText form held count bytes text
+  turn_text count roads are held bytes text read answers = record {
+    found = found;
+    ways = ways;
+    are = read.1;
+    roads = roads;
+    roads_are = subst (λ (t : List Turn). AreTurnRoads found ways t count roads) read.2 are;
+    answers = answers;
+  }

@@ -8,4 +8,4 @@ returns-in-Ok-tell-clause-done g c = λ _.
 
 pub returns-in-Err-WriteFault-clause-front : goal.returns-in-Err-WriteFault-clause-front
 returns-in-Err-WriteFault-clause-front g c = λ _.
-    front_of_told c.in-Ok.ground (car_land c.args.roads) c.in-Ok.ensures c.in-Ok-read_store.prep _ _ _ c.in-Ok-read_store.ensures.stored c.in-Err-WriteFault.ensures.err
+    front_of_told c.in-Ok.ground (car_land c.args.roads) c.in-Ok.ensures c.in-Ok-read_store.prep _ _ _ c.in-Ok-read_store.ensures.stored (c.in-Err-WriteFault.ensures.front (let fault = c.in-Err-WriteFault.field-0-is in cc))

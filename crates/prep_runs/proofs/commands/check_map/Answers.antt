@@ -1,4 +1,4 @@
-use Rattle.prep_runs.proofs.CarRoads.{checked_behind, checked_front, checked_part, store_says}
+use Rattle.prep_runs.proofs.CarRoads.{checked_behind, checked_front, store_says}
 use Rattle.prep_runs.proofs.commands.check_map.Goals as goal
 
 pub returns-clause-done : goal.returns-clause-done
@@ -9,6 +9,3 @@ returns-clause-store g c = store_says c.check_store.result c.args.form _ _ c.in-
 
 pub returns-clause-front : goal.returns-clause-front
 returns-clause-front g c = λ e. checked_front c.args.form _ _ _ _ c.in-Ok.roads c.in-Ok.ensures.map (c.check_store.ensures.front e)
-
-pub returns-clause-part : goal.returns-clause-part
-returns-clause-part g c = λ e. checked_part c.args.form _ _ _ _ c.in-Ok.roads c.in-Ok.ensures.map (c.check_store.ensures.part e)

@@ -1,20 +1,8 @@
-use Rattle.std.proofs.Common.{ℕ, List}
-use Rattle.std.specs.Io.KnownBytes.{Appends}
-use Rattle.gh_base.specs.Causes.{AppendsFront}
-use Rattle.turn_runs.proofs.Behind.{text_behind, part_behind}
+use Rattle.map_roads.specs.Opening.{guide_of}
+use Rattle.map_roads.proofs.Counted.{map_read, few_read, map_counted, labels_counted}
+use Rattle.query_lines.specs.Answering.{IsAnswered}
+use Rattle.query_lines.proofs.OverMaps.{map_said, labels_said, over_map, front_over_map}
+use Rattle.turn_runs.specs.Lines.{IsLineOf}
+use Rattle.turn_runs.specs.Runs.{IsTurnText}
+use Rattle.turn_runs.proofs.Told.{AreOfMap, roads_read, turn_roads, turn_text}
 use Rattle.turn_runs.proofs.commands.turns_map.Goals as goal
-
-pub returns-clause-done : goal.returns-clause-done
-returns-clause-done g c =
-    let map = c.in-Ok.map in
-    λ done. text_behind map.roads map.ways map.turns c.args.count c.args.form _ _ (λ (text : List ℕ). Appends _ _ text) c.in-Ok.ensures.map (c.answer_lines.ensures.done done)
-
-pub returns-clause-front : goal.returns-clause-front
-returns-clause-front g c =
-    let map = c.in-Ok.map in
-    λ fault. text_behind map.roads map.ways map.turns c.args.count c.args.form _ _ (λ (text : List ℕ). AppendsFront _ _ text) c.in-Ok.ensures.map (c.answer_lines.ensures.front fault)
-
-pub returns-clause-part : goal.returns-clause-part
-returns-clause-part g c =
-    let map = c.in-Ok.map in
-    λ none. part_behind map.roads map.ways map.turns c.args.count c.args.form _ _ _ _ c.in-Ok.ensures.map (c.answer_lines.ensures.part none)
