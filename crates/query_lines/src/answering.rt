@@ -61,7 +61,8 @@ fn text_for<A: Answering, I: Source>(
 
 /// Reads query lines, answers them, and writes the text in one piece behind the last answer.
 ///
-/// `WriteFault` may leave a front of the text; after any other answer but `Done` nothing is written.
+/// `WriteFault` may leave a front of the text; after any other answer but `Done` nothing is
+/// written.
 pub fn answer_lines<A: Answering, I: Source, K: Sink>(
     alloc: Global,
     answers: &A,

@@ -50,8 +50,8 @@ fn reply_of(graph: &BaseGraph, found: Found) -> Reply
     }
 }
 
-/// What answers queries by least walks with no banned turn: the roads of cars, the restrictions of their
-/// map, those that count at each tower, and what was made of the roads, which guides searches.
+/// What answers queries by least walks with no banned turn: the roads of cars, the restrictions of
+/// their map, those that count at each tower, and what was made of the roads, which guides searches.
 #[derive(Drop)]
 pub(crate) struct TurnAnswers<'a> {
     ground: &'a Ground,
@@ -71,9 +71,19 @@ impl<'a> Model for TurnAnswers<'a> {
 
     ghost coded = { Prim.hlevel (codes, e.the_row.coded) };
 
-    ghost view = { λ a. record { land = a.ground.now; turns = a.turns.now; table = a.table.now; guide = guide_of a.made.now } };
+    ghost view = { λ a. record {
+        land = a.ground.now;
+        turns = a.turns.now;
+        table = a.table.now;
+        guide = guide_of a.made.now;
+    } };
 
-    ghost invariant = { λ a. AreSound (record { land = a.ground.now; turns = a.turns.now; table = a.table.now; guide = guide_of a.made.now }) };
+    ghost invariant = { λ a. AreSound (record {
+        land = a.ground.now;
+        turns = a.turns.now;
+        table = a.table.now;
+        guide = guide_of a.made.now;
+    }) };
 }
 
 impl<'a> TurnAnswers<'a> {
@@ -87,9 +97,15 @@ impl<'a> TurnAnswers<'a> {
         requires graph { IsGraph ground.now.graph }
         requires there { 0 < length ground.now.profiles }
         requires suits { IsFor ground.now.graph table.now }
-        requires table { IsTableOf (streets_for ground.now.graph ground.now.ids table.now) turns.now table.now }
+        requires table { IsTableOf (streets_for ground.now.graph ground.now.ids table.now)
+            turns.now table.now }
         requires guides { IsGuideOf ground.now count (guide_of made.now) }
-        ensures { result ≡ record { land = ground.now; turns = turns.now; table = table.now; guide = guide_of made.now } }
+        ensures { result ≡ record {
+            land = ground.now;
+            turns = turns.now;
+            table = table.now;
+            guide = guide_of made.now;
+        } }
     {
         TurnAnswers {
             ground,

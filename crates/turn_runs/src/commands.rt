@@ -17,13 +17,14 @@ use std::alloc::Global;
 use std::thread::Threads;
 use turn_graph::TurnTable;
 
-/// Answers query lines by least walks of cars over the map of a name that obey its turn restrictions. At
-/// most `count` landmarks guide the searches.
+/// Answers query lines by least walks of cars over the map of a name that obey its turn
+/// restrictions. At most `count` landmarks guide the searches.
 ///
-/// The file is read once, so map and restrictions are of one text. A line is `route W MM S` and the edges,
-/// with the weight in ms, the length in mm and the starts of the search; `noroute S`; `overflow W`, where
-/// the least weight is over 9007199254740991; or `nonode ID`. They are written in one piece behind the last.
-/// `WriteFault` may leave a front of the text; after any other answer but `Done` nothing is written.
+/// The file is read once, so map and restrictions are of one text. A line is `route W MM S` and the
+/// edges, with the weight in ms, the length in mm and the starts of the search; `noroute S`;
+/// `overflow W`, where the least weight is over 9007199254740991; or `nonode ID`. They are written
+/// in one piece behind the last. `WriteFault` may leave a front of the text; after any other answer
+/// but `Done` nothing is written.
 pub fn turns_map<R: Threads + Sync, F: Files, I: Source, K: Sink>(
     rt: &R,
     alloc: Global,
