@@ -53,9 +53,9 @@ module _ (land : Land) (prep : Preparation) (count : ℕ) (at : IsPrepAt land []
 
 -- an answer that is right by the bounds of what guides the search, where that is seen
 pub right_between : {E : Type 0} (seen : Guided) (land : Land) (guide own : Option Preparation) → record { land = land; guide = guide } ≡ seen → guide ≡ own
-    → (from to : ℕ) {ahead behind : ℕ → Option ℕ} → AreBounds land own from to ahead behind
+    → (from to : ℕ) (ahead behind : ℕ → Option ℕ) → AreBounds land own from to ahead behind
     → (result : Result BothAnswer E) → IfOk result (IsRightBy land ahead behind from to) → IfOk result (IsRightBetween seen.land seen.guide from to)
-right_between seen land guide own view_is guide_is from to bounds (Err e) right = tt
-right_between seen land guide own view_is guide_is from to {ahead} {behind} bounds (Ok answer) right =
+right_between seen land guide own view_is guide_is from to ahead behind bounds (Err e) right = tt
+right_between seen land guide own view_is guide_is from to ahead behind bounds (Ok answer) right =
     subst (λ (v : Guided). IsRightBetween v.land v.guide from to answer) view_is
     (subst (λ (g : Option Preparation). IsRightBetween land g from to answer) (sym guide_is) (record { ahead = ahead; behind = behind; bounds = bounds; right = right }))

@@ -26,7 +26,7 @@ reply_by-in-Prep-requires-clause-feasible c =
 pub returns-in-Prep : goal.returns-in-Prep
 returns-in-Prep c =
     let p = c.potential_between-potential.result in
-    right_guided c.args.self.now c.self.inside.ground.now (Some c.in-Prep.prep.now) (ap (λ (r : TurnRoads). r.land) c.self.view_is)
+    right_guided c.args.self.now c.self.inside.ground.now (Some c.in-Prep.prep) (ap (λ (r : TurnRoads). r.land) c.self.view_is)
     (sym (ap guide_of c.in-Prep.is) ∙ ap (λ (r : TurnRoads). r.guide) c.self.view_is) c.args.from c.args.to
     (potential_of (picked p.prep.now.labels p.active) p.goal (nodes_of p.prep.now.labels)) c.potential_between-potential.ensures.bound
     c.reply_by-in-Prep.result c.reply_by-in-Prep.ensures.apart c.reply_by-in-Prep.ensures.here
