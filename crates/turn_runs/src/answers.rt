@@ -72,17 +72,17 @@ impl<'a> Model for TurnAnswers<'a> {
     ghost coded = { Prim.hlevel (codes, e.the_row.coded) };
 
     ghost view = { λ a. record {
-        land = a.ground.now;
-        turns = a.turns.now;
-        table = a.table.now;
-        guide = guide_of a.made.now;
+      land = a.ground.now;
+      turns = a.turns.now;
+      table = a.table.now;
+      guide = guide_of a.made.now;
     } };
 
     ghost invariant = { λ a. AreSound (record {
-        land = a.ground.now;
-        turns = a.turns.now;
-        table = a.table.now;
-        guide = guide_of a.made.now;
+      land = a.ground.now;
+      turns = a.turns.now;
+      table = a.table.now;
+      guide = guide_of a.made.now;
     }) };
 }
 
@@ -101,10 +101,10 @@ impl<'a> TurnAnswers<'a> {
             turns.now table.now }
         requires guides { IsGuideOf ground.now count (guide_of made.now) }
         ensures { result ≡ record {
-            land = ground.now;
-            turns = turns.now;
-            table = table.now;
-            guide = guide_of made.now;
+          land = ground.now;
+          turns = turns.now;
+          table = table.now;
+          guide = guide_of made.now;
         } }
     {
         TurnAnswers {

@@ -35,7 +35,7 @@ returns-clause-done g c = λ e.
     let form = c.args.form in
     let count = c.args.count in
     let are = turn_roads map.roads map.ways map.turns count c.in-Ok-cars_of.ground c.in-Ok-cars_of.ensures.cars c.in-Ok-new.table c.in-Ok-new.ensures.kept
-        (guide_of c.in-Ok-prepare_opening.made) c.in-Ok-prepare_opening.ensures.guide c.new-answers.result c.new-answers.ensures in
+    (guide_of c.in-Ok-prepare_opening.made) c.in-Ok-prepare_opening.ensures.guide c.new-answers.result c.new-answers.ensures in
     over_map (AreOfMap form map.roads map.ways map.turns) (IsAnswered (IsLineOf c.new-answers.result)) (λ held bytes text. IsTurnText form held count bytes text)
     (turn_text form map.roads map.ways map.turns count c.new-answers.result are) _ _ _ _ c.in-Ok.ensures.map (c.answer_lines.ensures.done e)
 
@@ -45,6 +45,6 @@ returns-clause-front g c = λ e.
     let form = c.args.form in
     let count = c.args.count in
     let are = turn_roads map.roads map.ways map.turns count c.in-Ok-cars_of.ground c.in-Ok-cars_of.ensures.cars c.in-Ok-new.table c.in-Ok-new.ensures.kept
-        (guide_of c.in-Ok-prepare_opening.made) c.in-Ok-prepare_opening.ensures.guide c.new-answers.result c.new-answers.ensures in
+    (guide_of c.in-Ok-prepare_opening.made) c.in-Ok-prepare_opening.ensures.guide c.new-answers.result c.new-answers.ensures in
     front_over_map (AreOfMap form map.roads map.ways map.turns) (IsAnswered (IsLineOf c.new-answers.result)) (λ held bytes text. IsTurnText form held count bytes text)
     (turn_text form map.roads map.ways map.turns count c.new-answers.result are) _ _ _ _ c.in-Ok.ensures.map (c.answer_lines.ensures.front e)

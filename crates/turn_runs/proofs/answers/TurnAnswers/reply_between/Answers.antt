@@ -17,8 +17,8 @@ returns-in-NoLandmark c =
     (sym (ap guide_of c.in-NoLandmark.is) ∙ ap (λ (r : TurnRoads). r.guide) c.self.view_is) c.args.from c.args.to flat refl
     c.reply_by.result c.reply_by.ensures.apart c.reply_by.ensures.here
 
-pub reply_by-in-Prep-requires-clause-feasible : goal.reply_by-in-Prep-requires-clause-feasible
-reply_by-in-Prep-requires-clause-feasible c =
+pub reply_by-requires-in-Prep-clause-feasible : goal.reply_by-requires-in-Prep-clause-feasible
+reply_by-requires-in-Prep-clause-feasible c =
     let p = c.potential_between-potential.result in
     subst (λ (r : TurnRoads). IsFeasible (opening_network r.land) (potential_of (picked p.prep.now.labels p.active) p.goal (nodes_of p.prep.now.labels)) c.args.to.0) c.self.view_is
     c.potential_between-potential.ensures.feasible

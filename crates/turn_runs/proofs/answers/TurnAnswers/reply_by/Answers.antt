@@ -26,18 +26,18 @@ reply_of-requires-clause-over g c =
     let graph = c.graph-graph.result.now.lists in
     let v = c.new-view.result in
     let says = search_over roads c.profile.result.now c.new-weighting.result (opening_of c.new-limits.result.graph.now.lists) graph
-        (network_of v.side v.weighting.now (opening_of v.limits.now.graph.now.lists) v.graph.now.lists)
-        (g.P.Potential.bound c.args.inner) c.args.from.0 c.args.to.0 found
-        c.new-view.ensures.network c.new-weighting.ensures c.profile.ensures.profile c.new-limits.ensures.limits c.graph-graph.ensures
-        (record {
-          walk = c.in_ok-found.ensures.walk roads.land.ids roads.turns;
-          least = c.in_ok-found.ensures.least roads.land.ids roads.turns;
-          none = c.in_ok-found.ensures.none roads.land.ids roads.turns;
-          within = c.in_ok-found.ensures.within;
-          all = c.in_ok-found.ensures.all;
-          here = c.in_ok-found.ensures.here;
-          empty = c.in_ok-found.ensures.empty;
-        }) in
+    (network_of v.side v.weighting.now (opening_of v.limits.now.graph.now.lists) v.graph.now.lists)
+    (g.P.Potential.bound c.args.inner) c.args.from.0 c.args.to.0 found
+    c.new-view.ensures.network c.new-weighting.ensures c.profile.ensures.profile c.new-limits.ensures.limits c.graph-graph.ensures
+    (record {
+      walk = c.in_ok-found.ensures.walk roads.land.ids roads.turns;
+      least = c.in_ok-found.ensures.least roads.land.ids roads.turns;
+      none = c.in_ok-found.ensures.none roads.land.ids roads.turns;
+      within = c.in_ok-found.ensures.within;
+      all = c.in_ok-found.ensures.all;
+      here = c.in_ok-found.ensures.here;
+      empty = c.in_ok-found.ensures.empty;
+    }) in
     subst (λ (own : Graph). IfWalk found (λ hops _ _. AreOver own hops)) (sym c.graph-graph.ensures)
     (hops_over roads c.self.invariant.table_is (g.P.Potential.bound c.args.inner) c.args.from.0 c.args.to.0 c.self.invariant.graph found says)
 
@@ -50,18 +50,18 @@ returns g c =
     let graph = c.graph-graph.result.now.lists in
     let v = c.new-view.result in
     let says = search_over roads c.profile.result.now c.new-weighting.result (opening_of c.new-limits.result.graph.now.lists) graph
-        (network_of v.side v.weighting.now (opening_of v.limits.now.graph.now.lists) v.graph.now.lists)
-        bound c.args.from.0 c.args.to.0 found
-        c.new-view.ensures.network c.new-weighting.ensures c.profile.ensures.profile c.new-limits.ensures.limits c.graph-graph.ensures
-        (record {
-          walk = c.in_ok-found.ensures.walk roads.land.ids roads.turns;
-          least = c.in_ok-found.ensures.least roads.land.ids roads.turns;
-          none = c.in_ok-found.ensures.none roads.land.ids roads.turns;
-          within = c.in_ok-found.ensures.within;
-          all = c.in_ok-found.ensures.all;
-          here = c.in_ok-found.ensures.here;
-          empty = c.in_ok-found.ensures.empty;
-        }) in
+    (network_of v.side v.weighting.now (opening_of v.limits.now.graph.now.lists) v.graph.now.lists)
+    bound c.args.from.0 c.args.to.0 found
+    c.new-view.ensures.network c.new-weighting.ensures c.profile.ensures.profile c.new-limits.ensures.limits c.graph-graph.ensures
+    (record {
+      walk = c.in_ok-found.ensures.walk roads.land.ids roads.turns;
+      least = c.in_ok-found.ensures.least roads.land.ids roads.turns;
+      none = c.in_ok-found.ensures.none roads.land.ids roads.turns;
+      within = c.in_ok-found.ensures.within;
+      all = c.in_ok-found.ensures.all;
+      here = c.in_ok-found.ensures.here;
+      empty = c.in_ok-found.ensures.empty;
+    }) in
     let table_is = c.self.invariant.table_is in
     let feasible = subst (λ (r : TurnRoads). IsFeasible (opening_network r.land) bound c.args.to.0) (sym c.self.view_is) c.requires.feasible in
     let said_is : c.reply_of.result ≡ reply_of roads.land.graph found = c.reply_of.ensures ∙ ap (λ (own : Graph). reply_of own found) c.graph-graph.ensures in
