@@ -8,7 +8,7 @@ use Rattle.gh_base.specs.declared.edges.NodeId.{NodeId}
 use Rattle.gh_base.specs.declared.edges.DirEdge.{DirEdge}
 use Rattle.gh_base.specs.declared.edges.Hop.{Hop}
 use Rattle.gh_base.specs.Networks.{Network}
-use Rattle.walk_rules.specs.Walks.{weight_of}
+use Rattle.walk_rules.specs.Walks.{IsWalk, weight_of}
 use Rattle.walk_rules.specs.Potentials.{IsFeasible}
 use Rattle.walk_rules.specs.Starts.{StartsWithin, StartsAtAll}
 use Rattle.base_graph.specs.Graphs.{Graph, IsGraph}
@@ -22,6 +22,7 @@ use Rattle.alt_search.specs.declared.finding.Found.{Found}
 use Rattle.alt_search.specs.declared.finding.Found.TheVariants as found
 use Rattle.alt_search.specs.Findings.{IfWalk, IfNoWalk, IsNoWalk, settled_of}
 use Rattle.turn_graph.specs.declared.turn.Turn.{Turn}
+use Rattle.turn_graph.specs.Restrictions.{Streets}
 use Rattle.turn_graph.specs.Tables.{Table, IsTableOf, streets_for}
 use Rattle.turn_graph.specs.TurnWalks.{IsTurnWalk, IsAtMostEachTurnWalk, NoTurnWalk}
 use Rattle.turn_graph.specs.States.{by_states, trip_by, start_in, target_in}
@@ -35,6 +36,13 @@ use Rattle.script_text.specs.declared.reply.Reply.TheVariants as reply
 use Rattle.map_roads.specs.Opening.{opening_network, IsBoundBetween}
 use Rattle.turn_runs.specs.Lines.{TurnRoads, streets_of, IsLeastRoute, IsRightBy, IsRightHere, IsRightTo}
 use Rattle.turn_runs.specs.Sound.{reply_of}
+
+-- the hops of a turn walk that was found are over edges
+pub hops_over : (rule : Rule) (limits : DirEdge → ℕ) (graph : Graph) → IsGraph graph → (network : Network) → network ≡ network_by rule limits graph → (streets : Streets) (turns : List Turn) (from to : ℕ)
+    → (found : Found) → IfWalk found (λ hops weight _. IsTurnWalk network streets turns from hops to × (weight_of hops ≡ weight)) → IfWalk found (λ hops _ _. AreOver graph hops)
+hops_over rule limits graph facts network same streets turns from to (found.Walk hops weight settled) walk =
+    walk_over Out rule limits graph facts from to hops (subst (λ (n : Network). IsWalk n from hops to) same walk.0.walk)
+hops_over rule limits graph facts network same streets turns from to (found.NoWalk settled) walk = tt
 
 -- what a search says of what it found over a network and a graph, where a bound looks ahead
 pub record SearchSays (ids : List ℤ) (turns : List Turn) (table : Table) (bound : ℕ → Option ℕ) (from to : ℕ) (found : Found) (network : Network) (graph : Graph) : Type 0 where
@@ -70,12 +78,6 @@ search_over roads own rule seen graph network bound from to found is rule_is own
 module _ (roads : TurnRoads) (is : IsTableOf (streets_of roads) roads.turns roads.table) (bound : ℕ → Option ℕ) (from to : ℕ) where
   abbrev Says : Found → Type 0
   Says found = SearchSays roads.land.ids roads.turns roads.table bound from to found (opening_network roads.land) roads.land.graph
-
-  -- its hops are over edges
-  pub hops_over : IsGraph roads.land.graph → (found : Found) → Says found → IfWalk found (λ hops _ _. AreOver roads.land.graph hops)
-  hops_over facts (found.Walk hops weight settled) says =
-      walk_over Out (rule_alone (profile_at roads.land.profiles 0)) (opening_of roads.land.graph) roads.land.graph facts from to hops (says.walk is).0.walk
-  hops_over facts (found.NoWalk settled) says = tt
 
   -- where the bound is feasible, what it comes to is right
   pub right_reply : IsFeasible (opening_network roads.land) bound to → from ≢ to → (found : Found) → Says found → IsRightBy roads bound from to (reply_of roads.land.graph found)

@@ -2,8 +2,8 @@ use Rattle.std.proofs.Common.{◌≡◌, ◌∙◌, ℕ, sym, subst, ap}
 use Rattle.gh_base.specs.Networks.{Network}
 use Rattle.walk_rules.specs.Potentials.{IsFeasible}
 use Rattle.base_graph.specs.Graphs.{Graph}
-use Rattle.weighting.specs.Roads.{AreOver, network_of, opening_of}
-use Rattle.alt_search.specs.Findings.{IfWalk}
+use Rattle.weighting.specs.Roads.{network_of, opening_of}
+use Rattle.turn_graph.specs.Tables.{IsTableOf, streets_for}
 use Rattle.turn_graph.specs.States.{IsOver}
 use Rattle.script_text.specs.declared.reply.Reply.{Reply}
 use Rattle.map_roads.specs.Opening.{opening_network, guide_of}
@@ -21,25 +21,10 @@ search_turns-requires-clause-over g c =
 pub reply_of-requires-clause-over : goal.reply_of-requires-clause-over
 reply_of-requires-clause-over g c =
     let i = c.self.inside in
-    let roads : TurnRoads = record { land = i.ground.now; turns = i.turns.now; table = i.table.now; guide = guide_of i.made.now } in
-    let found = c.in_ok-found.found in
-    let graph = c.graph-graph.result.now.lists in
-    let v = c.new-view.result in
-    let says = search_over roads c.profile.result.now c.new-weighting.result (opening_of c.new-limits.result.graph.now.lists) graph
-    (network_of v.side v.weighting.now (opening_of v.limits.now.graph.now.lists) v.graph.now.lists)
-    (g.P.Potential.bound c.args.inner) c.args.from.0 c.args.to.0 found
-    c.new-view.ensures.network c.new-weighting.ensures c.profile.ensures.profile c.new-limits.ensures.limits c.graph-graph.ensures
-    (record {
-      walk = c.in_ok-found.ensures.walk roads.land.ids roads.turns;
-      least = c.in_ok-found.ensures.least roads.land.ids roads.turns;
-      none = c.in_ok-found.ensures.none roads.land.ids roads.turns;
-      within = c.in_ok-found.ensures.within;
-      all = c.in_ok-found.ensures.all;
-      here = c.in_ok-found.ensures.here;
-      empty = c.in_ok-found.ensures.empty;
-    }) in
-    subst (λ (own : Graph). IfWalk found (λ hops _ _. AreOver own hops)) (sym c.graph-graph.ensures)
-    (hops_over roads c.self.invariant.table_is (g.P.Potential.bound c.args.inner) c.args.from.0 c.args.to.0 c.self.invariant.graph found says)
+    let graph = c.graph-graph.result.now in
+    let table_is = subst (λ (own : Graph). IsTableOf (streets_for own i.ground.now.ids i.table.now) i.turns.now i.table.now) (sym c.graph-graph.ensures) c.self.invariant.table_is in
+    hops_over c.new-weighting.result (opening_of c.new-limits.result.graph.now.lists) graph.lists graph.facts _ c.new-view.ensures.network _ _ c.args.from.0 c.args.to.0 c.in_ok-found.found
+    (c.in_ok-found.ensures.walk i.ground.now.ids i.turns.now table_is)
 
 pub returns : goal.returns
 returns g c =
