@@ -4,13 +4,11 @@ use Rattle.std.specs.Prelude.{IfSome}
 use Rattle.gh_base.specs.Causes.{Rose}
 use Rattle.gh_base.specs.declared.kinds.Form.{Form}
 use Rattle.gh_base.specs.declared.kinds.Form.TheVariants as forms
-use Rattle.gh_base.specs.declared.map.OsmMap.{OsmMap}
-use Rattle.map_roads.specs.Statuses.{ReadsAs, IsFaultOf, IsMap, IsOfRoads, MapSays, IsCalm, IsDoneOrNoMemory}
+use Rattle.map_roads.specs.Statuses.{IsMap, IsOfRoads, MapSays, IsCalm, IsDoneOrNoMemory}
 use Rattle.gh_serve.specs.Statuses.{IsScriptText, AsksLabels, AreFewLabels, AreManyLabels, IsOfService, IsOfConversion, ScriptSays, LabelsSay}
 use Rattle.map_roads.proofs.OneMap.{one_map, no_fault}
 use Rattle.gh_serve.specs.Runs.{IsServable}
 use Rattle.gh_serve.specs.Converting.{IsConvertible, ConversionSays}
-use Rattle.map_roads.specs.declared.status.MapFault.{MapFault}
 use Rattle.map_roads.specs.declared.status.MapFault.TheVariants as fault
 use Rattle.map_roads.specs.declared.status.Status.{Status}
 use Rattle.map_roads.specs.declared.status.Status.TheVariants as status

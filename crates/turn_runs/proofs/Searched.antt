@@ -1,5 +1,5 @@
 -- What a search by states finds is the right reply between two towers.
-use Rattle.std.proofs.Common.{◌≡◌, ◌≢◌, ◌↔◌, ◌<◌, ◌≤◌, ℕ, ℤ, Option, None, Result, Ok, Err, List, [], IfOk, refl, sym, subst, ap, ◌∙◌, inl, inr, arith}
+use Rattle.std.proofs.Common.{◌≡◌, ◌≢◌, ◌↔◌, ℕ, ℤ, Option, None, Result, Ok, Err, List, [], IfOk, refl, sym, subst, ap, ◌∙◌, inl, inr, arith}
 use Rattle.std.proofs.lemmas.Bool.{cases_Bool, cases_eq}
 use Rattle.std.proofs.lemmas.Bool.Decides.{nat_tests}
 use Rattle.std.specs.Prelude.{nat_lt}
@@ -28,7 +28,7 @@ use Rattle.turn_graph.specs.TurnWalks.{IsTurnWalk, IsAtMostEachTurnWalk, NoTurnW
 use Rattle.turn_graph.specs.States.{by_states, trip_by, start_in, target_in}
 use Rattle.turn_graph.specs.Bounds.{bound_by}
 use Rattle.landmark_prep.specs.Preparations.{Preparation}
-use Rattle.traffic_core.specs.Lands.{Land, rule_alone}
+use Rattle.traffic_core.specs.Lands.{Land}
 use Rattle.traffic_core.specs.Answers.{greatest_weight}
 use Rattle.traffic_share.proofs.PreparationsAfter.{network_is}
 use Rattle.script_text.specs.declared.reply.Reply.{Reply}

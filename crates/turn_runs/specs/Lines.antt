@@ -1,5 +1,5 @@
 -- Which line answers a query: a least walk of cars from tower to tower that obeys the turn restrictions of the map.
-use Rattle.std.specs.Prelude.{◌≡◌, ◌≢◌, ◌≤◌, ◌<◌, ◌⊎◌, ◌++◌, ℕ, ℤ, Option, List, [], codes}
+use Rattle.std.specs.Prelude.{◌≡◌, ◌≢◌, ◌≤◌, ◌<◌, ◌⊎◌, ◌++◌, ℕ, Option, List, [], codes}
 use Rattle.std.specs.List.{sum_by}
 use Rattle.gh_base.specs.declared.edges.NodeId.{NodeId}
 use Rattle.gh_base.specs.declared.edges.Hop.{Hop}

@@ -1,4 +1,4 @@
-use Rattle.std.proofs.Common.{Option, subst}
+use Rattle.std.proofs.Common.{subst}
 use Rattle.landmark_prep.specs.declared.making.Made.{Made}
 use Rattle.map_roads.specs.Opening.{guide_of, IsGuideOf}
 use Rattle.prep_runs.proofs.cars.write_store.Goals as goal

@@ -1,4 +1,4 @@
-use Rattle.std.proofs.Common.{None, Some, refl, subst, ap}
+use Rattle.std.proofs.Common.{Some, subst, ap}
 use Rattle.base_graph.specs.Graphs.{Graph, IsGraph}
 use Rattle.map_roads.specs.Opening.{guide_of}
 use Rattle.both_runs.proofs.Opening.{behind_feasible, bounds_of, right_between}

@@ -1,4 +1,4 @@
-use Rattle.std.proofs.Common.{◌≡◌, ◌∙◌, ℕ, sym, subst, ap}
+use Rattle.std.proofs.Common.{◌≡◌, ◌∙◌, sym, subst, ap}
 use Rattle.gh_base.specs.Networks.{Network}
 use Rattle.walk_rules.specs.Potentials.{IsFeasible}
 use Rattle.base_graph.specs.Graphs.{Graph}
