@@ -17,7 +17,6 @@ use Rattle.prep_store.specs.Stores.{Lists, AreEvidence, AreOfLists, IsStored, ro
 use Rattle.prep_store.specs.Writing.{AreListings, AreAllListings, FitsBytes, IsStoreOf}
 use Rattle.prep_store.proofs.Shown.{grains_turned}
 use Rattle.prep_store.proofs.Evident.{listing_evidence, listing_each}
-use Rattle.prep_store.proofs.Whole.{prep_fine}
 
 module _ (network back : Network) (grain : ℕ) (fine : 1 ≤ grain) (turned : AreTurned network back) where
   -- the labels to a landmark are those from it over the roads turned round
@@ -58,7 +57,7 @@ stored_again land prep text graph fits is_true store =
     let network = roads_at land prep.profile prep.snapshot in
     let back = back_at land prep.profile prep.snapshot in
     let turned : AreTurned network back = sides_are_turned (rule_alone (profile_at land.profiles prep.profile)) (limit_in prep.snapshot) land.graph graph in
-    let fine : 1 ≤ prep.grain = prep_fine network (length prep.landmarks) prep is_true.is_prep in (
+    let fine : 1 ≤ prep.grain = omega (arith, is_true.is_prep.placing.grain_is) in (
       store.lists,
       record {
         landmarks = record {

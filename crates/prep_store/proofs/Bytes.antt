@@ -1,84 +1,51 @@
 -- The bytes of the number that bytes are.
-use Rattle.std.proofs.Common.{◌≡◌, ℕ, zero, suc, ◌+◌, ◌-◌, ◌*◌, ◌/◌, ◌%◌, ◌^◌, ◌<◌, ◌≤◌, All, List, [], ◌∷◌, ◌++◌, length, take, drop, slice_index, Option, Some, None, refl, sym, subst, ap, ◌∙◌, append_assoc, arith}
-use Rattle.std.proofs.Math.Nat.{div-one, div-eq_of_lt, mod-eq_of_lt, mul-add-div_right, mul-add-mod_self_right, mul_assoc, one-le-pow, pow-succ'}
+use Rattle.std.proofs.Common.{◌≡◌, ℕ, zero, suc, ◌+◌, ◌-◌, ◌<◌, ◌≤◌, List, [], ◌∷◌, ◌++◌, length, take, drop, slice_index, sym, subst, ap, ◌∙◌, arith}
 use Rattle.std.proofs.Math.Seq.{take-append-add}
-use Rattle.std.proofs.lemmas.List.{length-take-le, length-drop, take_all, take-append-drop, take-append-le, get_or_default}
-use Rattle.std.proofs.lemmas.List.Elements.{All-take, All-drop}
+use Rattle.std.proofs.lemmas.List.{length-take-le, length-drop, take_all, take-append-drop, take-append-le}
+use Rattle.std.proofs.lemmas.Nat.{be_bytes_2, be_bytes_4, be_bytes_8}
 use borrow.Rule.Slice.PartMut.{mid_of, put_mid, post_of, same_len_mid}
-use Rattle.std.specs.Io.KnownBytes.{Consumes}
-use Rattle.std.specs.Int.{byte_at, bytes_high_first}
-use Rattle.byteorder.specs.Endian.{big_from, big_number, big_bytes}
+use Rattle.byteorder.specs.Endian.{big_number, big_bytes}
+use Rattle.byteorder.specs.Numbers.{big_from-take}
 use Rattle.prep_store.specs.Steps.{IsEachByte}
-use Rattle.byteorder.specs.Numbers.{big_from-cons, big_from-lt, big_from-take}
+use Rattle.prep_store.specs.Readings.{Place, Takes}
+use Rattle.prep_store.proofs.Telling.{taken_as}
 
-pub consumed_more : (old mid new : Option (List ℕ)) (xs ys : List ℕ) → Consumes old mid xs → Consumes mid new ys → Consumes old new (xs ++ ys)
-consumed_more None mid new xs ys g h = tt
-consumed_more (Some a) (Some b) (Some c) xs ys g h = rw (g, h) (sym (append_assoc xs ys c))
-consumed_more (Some a) (Some b) None xs ys g h = absurd h
-consumed_more (Some a) None new xs ys g h = absurd g
+-- so many bytes are those of the number that they are
+abbrev pub AreOfNumber : ℕ → Type 0
+AreOfNumber n = (xs : List ℕ) → length xs ≡ n → IsEachByte xs → big_bytes n (big_number n xs) ≡ xs
 
--- a byte of a number, by its place
-byte_at-pow : (k x : ℕ) → byte_at k x ≡ x / 256 ^ k % 256
-byte_at-pow zero x = ap (λ (y : ℕ). y % 256) (sym (div-one x))
-byte_at-pow (suc k) x = refl
+pub of_two : AreOfNumber 2
+of_two xs long small = be_bytes_2 xs (big_number 2 xs) long small (omega arith)
 
--- its low bytes aren't changed by what stands above them
-low_bytes : (n a r : ℕ) → bytes_high_first n (a * 256 ^ n + r) ≡ bytes_high_first n r
-low_bytes zero a r = refl
-low_bytes (suc n) a r =
-    let pos : 0 < 256 ^ n = pos_pow n in
-    let split : a * 256 ^ suc n + r ≡ a * 256 * 256 ^ n + r = rw (pow-succ' 256 n) (ap (λ (x : ℕ). x + r) (sym (mul_assoc a 256 (256 ^ n)))) in
-    let quotient : (a * 256 * 256 ^ n + r) / 256 ^ n ≡ a * 256 + r / 256 ^ n = mul-add-div_right pos (a * 256) r in
-    let high : byte_at n (a * 256 * 256 ^ n + r) ≡ byte_at n r =
-    byte_at-pow n (a * 256 * 256 ^ n + r) ∙ (ap (λ (x : ℕ). x % 256) quotient ∙ (mul-add-mod_self_right a 256 (r / 256 ^ n) ∙ sym (byte_at-pow n r))) in
-    ap (bytes_high_first (suc n)) split ∙ (ap (λ (b : ℕ). b ∷ bytes_high_first n (a * 256 * 256 ^ n + r)) high ∙ ap (λ (bs : List ℕ). byte_at n r ∷ bs) (low_bytes n (a * 256) r))
-  where
-    pos_pow : (n : ℕ) → 0 < 256 ^ n
-    pos_pow n = let h = one-le-pow n 256 (omega arith) in omega arith
+pub of_four : AreOfNumber 4
+of_four xs long small = be_bytes_4 xs (big_number 4 xs) long small (omega arith)
 
-abbrev AreBytes : List ℕ → Type 0
-AreBytes xs = All (λ b. b < 256) xs
+pub of_eight : AreOfNumber 8
+of_eight xs long small = be_bytes_8 xs (big_number 8 xs) long small (omega arith)
 
-all_bytes : (xs : List ℕ) → IsEachByte xs → AreBytes xs
-all_bytes xs small k d l = subst (λ (b : ℕ). b < 256) (get_or_default xs k 0 d l) (small k)
+small_take : (n : ℕ) (xs : List ℕ) → IsEachByte xs → IsEachByte (take n xs)
+small_take zero xs small k = omega arith
+small_take (suc n) [] small k = omega arith
+small_take (suc n) (x ∷ xs) small zero = small 0
+small_take (suc n) (x ∷ xs) small (suc k) = small_take n xs (λ i. small (suc i)) k
 
-each_small : (xs : List ℕ) → AreBytes xs → (k : ℕ) → slice_index xs k < 256
-each_small [] all k = omega arith
-each_small (x ∷ xs) all zero = all 0 0 (omega arith)
-each_small (x ∷ xs) all (suc k) = each_small xs (λ i d l. all (suc i) d (omega arith)) k
+small_drop : (n : ℕ) (xs : List ℕ) → IsEachByte xs → IsEachByte (drop n xs)
+small_drop zero xs small k = small k
+small_drop (suc n) [] small k = omega arith
+small_drop (suc n) (x ∷ xs) small k = small_drop n xs (λ i. small (suc i)) k
 
--- bytes are those of the number that they are
-bytes_back : (xs : List ℕ) → AreBytes xs → big_bytes (length xs) (big_number (length xs) xs) ≡ xs
-bytes_back [] small = refl
-bytes_back (a ∷ xs) small =
-    let n = length xs in
-    let r = big_from 0 n xs in
-    let rest : AreBytes xs = λ i d l. small (suc i) d (omega arith) in
-    let lower : r < 256 ^ n = big_from-lt 0 n xs (each_small xs rest) in
-    let sum : big_from 0 (suc n) (a ∷ xs) ≡ a * 256 ^ n + r = ap (λ (x : ℕ). a * 256 ^ n + x) (big_from-cons 0 n a xs) in
-    let quotient : (a * 256 ^ n + r) / 256 ^ n ≡ a = mul-add-div_right (omega arith) a r ∙ (ap (λ (x : ℕ). a + x) (div-eq_of_lt lower) ∙ omega arith) in
-    let high : byte_at n (a * 256 ^ n + r) ≡ a = byte_at-pow n (a * 256 ^ n + r) ∙ (ap (λ (x : ℕ). x % 256) quotient ∙ mod-eq_of_lt (small 0 0 (omega arith))) in
-    ap (bytes_high_first (suc n)) sum ∙ (ap (λ (b : ℕ). b ∷ bytes_high_first n (a * 256 ^ n + r)) high
-    ∙ ap (λ (bs : List ℕ). a ∷ bs) (low_bytes n a r ∙ bytes_back xs rest))
+-- a number was taken
+pub number_taken : {a b : Place} (n : ℕ) (xs : List ℕ) (x : ℕ) → AreOfNumber n → x ≡ big_number n xs → length xs ≡ n → IsEachByte xs → Takes a b xs → Takes a b (big_bytes n x)
+number_taken n xs x of is long small taken = taken_as (sym (ap (big_bytes n) is ∙ of xs long small)) taken
 
-number_is_bytes : (n : ℕ) (xs : List ℕ) → length xs ≡ n → AreBytes xs → big_bytes n (big_number n xs) ≡ xs
-number_is_bytes n xs e small = subst (λ (k : ℕ). big_bytes k (big_number k xs) ≡ xs) e (bytes_back xs small)
-
-pub number_bytes : (n : ℕ) (xs : List ℕ) → length xs ≡ n → IsEachByte xs → big_bytes n (big_number n xs) ≡ xs
-number_bytes n xs e small = number_is_bytes n xs e (all_bytes xs small)
-
--- and so with two numbers
-pub two_numbers_bytes : (n m : ℕ) (xs : List ℕ) → length xs ≡ n + m → IsEachByte xs → big_bytes n (big_number n xs) ++ big_bytes m (big_number m (take m (drop n xs))) ≡ xs
-two_numbers_bytes n m xs e each =
-    let small : AreBytes xs = all_bytes xs each in
-    let front : big_bytes n (big_number n xs) ≡ take n xs =
-    ap (big_bytes n) (sym (big_from-take 0 n n xs (omega arith)))
-    ∙ number_is_bytes n (take n xs) (length-take-le n xs (omega arith)) (All-take (λ b. b < 256) n xs small) in
+-- two were
+pub two_taken : {a b : Place} (n m : ℕ) (xs : List ℕ) (x y : ℕ) → AreOfNumber n → AreOfNumber m → x ≡ big_number n xs → y ≡ big_number m (take m (drop n xs)) → length xs ≡ n + m → IsEachByte xs → Takes a b xs → Takes a b (big_bytes n x ++ big_bytes m y)
+two_taken n m xs x y of of' is is' long small taken =
+    let front : big_bytes n x ≡ take n xs = ap (big_bytes n) (is ∙ sym (big_from-take 0 n n xs (omega arith))) ∙ of (take n xs) (length-take-le n xs (omega arith)) (small_take n xs small) in
     let left : length (drop n xs) ≡ m = length-drop n xs ∙ omega arith in
     let all : take m (drop n xs) ≡ drop n xs = take_all m (drop n xs) (omega arith) in
-    let back : big_bytes m (big_number m (take m (drop n xs))) ≡ drop n xs =
-    ap (λ (ys : List ℕ). big_bytes m (big_number m ys)) all ∙ number_is_bytes m (drop n xs) left (All-drop (λ b. b < 256) n xs small) in
-    ap (λ (ys : List ℕ). ys ++ big_bytes m (big_number m (take m (drop n xs)))) front ∙ (ap (λ (ys : List ℕ). take n xs ++ ys) back ∙ take-append-drop n xs)
+    let back : big_bytes m y ≡ drop n xs = ap (big_bytes m) (is' ∙ ap (big_number m) all) ∙ of' (drop n xs) left (small_drop n xs small) in
+    taken_as (sym (ap (λ (ys : List ℕ). ys ++ big_bytes m y) front ∙ (ap (λ (ys : List ℕ). take n xs ++ ys) back ∙ take-append-drop n xs))) taken
 
 -- a part of a buffer that was written behind a front
 pub written_behind : (done count k : ℕ) (buf part : List ℕ) → done ≤ length buf → count ≤ length part → take (done + count) (put_mid done k buf part) ≡ take done buf ++ take count part

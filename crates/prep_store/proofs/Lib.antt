@@ -2,9 +2,9 @@ pub mod Lookups
 pub mod Attained
 pub mod Shown
 pub mod Rows
+pub mod Telling
 pub mod Bytes
 pub mod Lefts
-pub mod Telling
 pub mod Faulting
 pub mod Follows
 pub mod Opens
@@ -15,6 +15,5 @@ pub mod Candidates
 pub mod Underway
 pub mod Listings
 pub mod Whole
-pub mod Results
 pub mod Evident
 pub mod Again

@@ -1,8 +1,8 @@
--- A landmark has one listing, and lists are given one landmark after another.
+-- A landmark has one listing, and texts are given one behind another.
 use Rattle.std.specs.Prelude.{slice_get}
-use Rattle.std.proofs.Common.{◌≡◌, ◌<◌, ◌≤◌, ◌⊎◌, ℕ, Option, Some, List, [], ◌∷◌, ◌++◌, length, drop, get_or, ◌+◌, refl, sym, subst, ap, ◌∙◌, append_assoc, append-nil, inl, inr, arith}
+use Rattle.std.proofs.Common.{◌≡◌, ◌<◌, ◌≤◌, ◌⊎◌, ℕ, Option, Some, List, [], ◌∷◌, ◌++◌, length, drop, ◌+◌, refl, sym, subst, ap, ◌∙◌, append_assoc, append-nil, inl, inr, arith}
 use Rattle.std.proofs.lemmas.List.{drop_more, drop_all}
-use Rattle.std.proofs.lemmas.Option.{slice_get-get_or}
+use Rattle.std.proofs.lemmas.Option.{slice_get_within, get_or_from_slice_get}
 use Rattle.std.specs.Io.KnownBytes.{Appends}
 use Rattle.std.proofs.KnownBytes.{Appends-trans}
 use Rattle.gh_base.specs.Networks.{Network}
@@ -12,7 +12,7 @@ use Rattle.landmark_prep.specs.Packing.{Labels}
 use Rattle.landmark_prep.specs.Bounds.{labels_at}
 use Rattle.prep_store.specs.declared.item.Item.{Item}
 use Rattle.prep_store.specs.Stores.{Lists, list_text, lists_text}
-use Rattle.prep_store.specs.Ordering.{pair_text, AreGivenSoFar}
+use Rattle.prep_store.specs.Ordering.{IsListText, IsBoth, IsPairText, AreTexts, IsGiven, IsCutOff, AreGivenSoFar}
 use Rattle.prep_store.specs.Writing.{IsNext, AreNext, IsListing, AreListings, AreAllListings}
 use Rattle.prep_store.proofs.Candidates.{item_one}
 
@@ -45,96 +45,95 @@ listing_one network grain landmark labels (x ∷ xs) (y ∷ ys) n m =
     let rest = next_all_one network grain labels (y ∷ []) xs ys (subst (λ (i : Item). AreNext network grain labels (i ∷ []) xs) e n.2) m.2 in
     cc
 
-pub pair_one : (network back : Network) (grain landmark : ℕ) (labels : Labels) (a b : Lists) → AreListings network back grain landmark labels a → AreListings network back grain landmark labels b → a ≡ b
-pair_one network back grain landmark labels a b n m =
-    let from = listing_one network grain landmark _ a.from b.from n.from m.from in
-    let to = listing_one back grain landmark _ a.to b.to n.to m.to in
-    ap (λ (xs : List Item). record { from = xs; to = a.to }) from ∙ ap (λ (xs : List Item). record { from = b.from; to = xs }) to
+-- a kind of text of which there is one
+abbrev pub IsOne : (List ℕ → Type 0) → Type 0
+IsOne IsSo = (a b : List ℕ) → IsSo a → IsSo b → a ≡ b
 
-pub lists_text-append : (xs ys : List Lists) → lists_text (xs ++ ys) ≡ lists_text xs ++ lists_text ys
-lists_text-append [] ys = refl
-lists_text-append (x ∷ xs) ys =
-    ap (λ (t : List ℕ). list_text x.from ++ (list_text x.to ++ t)) (lists_text-append xs ys)
-    ∙ (ap (λ (t : List ℕ). list_text x.from ++ t) (sym (append_assoc (list_text x.to) (lists_text xs) (lists_text ys)))
-    ∙ sym (append_assoc (list_text x.from) (list_text x.to ++ lists_text xs) (lists_text ys)))
+same_one : (text : List ℕ) → IsOne (λ t. t ≡ text)
+same_one text a b x y = x ∙ sym y
+
+pub list_one : (network : Network) (grain landmark : ℕ) (labels : ℕ → Option ℕ) → IsOne (IsListText network grain landmark labels)
+list_one network grain landmark labels a b x y = x.2 ∙ (ap list_text (listing_one network grain landmark labels x.0 y.0 x.1 y.1) ∙ sym y.2)
+
+both_one : (First Second : List ℕ → Type 0) → IsOne First → IsOne Second → IsOne (IsBoth First Second)
+both_one First Second f s a b x y = x.4 ∙ (ap (λ (t : List ℕ). t ++ x.1) (f x.0 y.0 x.2 y.2) ∙ (ap (λ (t : List ℕ). y.0 ++ t) (s x.1 y.1 x.3 y.3) ∙ sym y.4))
+
+-- one text behind another is given, and where one of them fails a front of both is
+pub both_given : {First Second : List ℕ → Type 0} {old mid new : Option (List ℕ)} → IsGiven First old mid → IsGiven Second mid new → IsGiven (IsBoth First Second) old new
+both_given {First} {Second} {old} {mid} {new} a b = record { text = a.text ++ b.text; so = (a.text, b.text, a.so, b.so, refl); given = Appends-trans old mid new a.text b.text a.given b.given }
+
+pub first_cut : {First Second : List ℕ → Type 0} {old new : Option (List ℕ)} → IsCutOff First old new → IsCutOff (IsBoth First Second) old new
+first_cut {First} {Second} {old} {new} c = record { front = λ text s. subst (AppendsFront old new) (sym s.4) (front_wide old new s.0 s.1 (c.front s.0 s.2)) }
+
+pub second_cut : {First Second : List ℕ → Type 0} {old mid new : Option (List ℕ)} → IsOne First → IsGiven First old mid → IsCutOff Second mid new → IsCutOff (IsBoth First Second) old new
+second_cut {First} {Second} {old} {mid} {new} one a c = record { front = λ text s.
+    second_failed old mid new a.text [] s.1 text (sends_all old mid a.text a.given) (c.front s.1 s.3) (ap (λ (t : List ℕ). t ++ s.1) (one a.text s.0 a.so s.2) ∙ sym s.4) }
 
 module _ (network back : Network) (grain : ℕ) (landmarks : List ℕ) (table : List Labels) where
+  abbrev pub AreSoFar : ℕ → List ℕ → Type 0
+  AreSoFar place front = AreGivenSoFar network back grain landmarks table (drop place landmarks) (drop place table) front
+
+  abbrev pub IsPairAt : ℕ → ℕ → List ℕ → Type 0
+  IsPairAt place landmark = IsPairText network back grain landmark (labels_at table place)
+
   -- before the first
   pub given_none : AreGivenSoFar network back grain landmarks table landmarks table []
-  given_none = record { more = λ rest a. a; only = λ lists a. (lists, refl, a) }
+  given_none = record { more = λ rest a. a; only = λ text a. ([], text, refl, a, refl) }
+
+  left : (place : ℕ) (landmark : ℕ) (front : List ℕ) → slice_get landmarks place ≡ Some landmark → length table ≡ length landmarks → AreSoFar place front →
+      AreGivenSoFar network back grain landmarks table (landmark ∷ drop (place + 1) landmarks) (labels_at table place ∷ drop (place + 1) table) front
+  left place landmark front at long s =
+      let within = slice_get_within landmarks place landmark at in
+      let here : drop place landmarks ≡ landmark ∷ drop (place + 1) landmarks = drop_more landmarks place 0 within ∙ ap (λ (n : ℕ). n ∷ drop (place + 1) landmarks) (get_or_from_slice_get landmarks place landmark 0 at) in
+      subst (λ (ls : List Labels). AreGivenSoFar network back grain landmarks table (landmark ∷ drop (place + 1) landmarks) ls front) (drop_more table place (record { from = []; to = [] }) (omega (arith, within, long)))
+      (subst (λ (ns : List ℕ). AreGivenSoFar network back grain landmarks table ns (drop place table) front) here s)
 
   -- after one more
-  pub given_more : (node : ℕ) (labels : Labels) (left : List ℕ) (left_table : List Labels) (front : List Lists) (pair : Lists) → AreGivenSoFar network back grain landmarks table (node ∷ left) (labels ∷ left_table) front →
-      AreListings network back grain node labels pair → AreGivenSoFar network back grain landmarks table left left_table (front ++ pair ∷ [])
-  given_more node labels left left_table front pair s p = record {
-    more = λ rest a. subst (AreAllListings network back grain landmarks table) (sym (append_assoc front (pair ∷ []) rest)) (s.more (pair ∷ rest) (p, a));
-    only = λ lists a. let r = s.only lists a in step lists r.0 r.1 r.2;
+  pub given_next : (place landmark : ℕ) (front pair : List ℕ) → slice_get landmarks place ≡ Some landmark → length table ≡ length landmarks → AreSoFar place front → IsPairAt place landmark pair → AreSoFar (place + 1) (front ++ pair)
+  given_next place landmark front pair at long s p = let t = left place landmark front at long s in record {
+    more = λ rest a. subst (AreTexts network back grain landmarks table) (sym (append_assoc front pair rest)) (t.more (pair ++ rest) (pair, rest, p, a, refl));
+    only = λ text a.
+        let r = t.only text a in
+        let q = r.3 in
+        let one = both_one _ _ (list_one network grain landmark _) (list_one back grain landmark _) in
+        (front ++ pair, q.1, refl, q.3, r.4 ∙ (ap (λ (x : List ℕ). x ++ r.1) r.2 ∙ (ap (λ (x : List ℕ). front ++ x) (q.4 ∙ ap (λ (x : List ℕ). x ++ q.1) (one q.0 pair q.2 p)) ∙ sym (append_assoc front pair q.1))));
   }
-    where
-      step : (lists rest : List Lists) → lists ≡ front ++ rest → AreAllListings network back grain (node ∷ left) (labels ∷ left_table) rest →
-          (rest : List Lists) × (lists ≡ (front ++ pair ∷ []) ++ rest) × AreAllListings network back grain left left_table rest
-      step lists [] e a = absurd a
-      step lists (q ∷ rest) e a =
-          let same = pair_one network back grain node labels q pair a.0 p in
-          (rest, e ∙ (ap (λ (x : Lists). front ++ x ∷ rest) same ∙ sym (append_assoc front (pair ∷ []) rest)), a.1)
-
-  -- after the last
-  pub given_all : (front : List Lists) → AreGivenSoFar network back grain landmarks table [] [] front → AreAllListings network back grain landmarks table front
-  given_all front s = subst (AreAllListings network back grain landmarks table) (append-nil front) (s.more [] tt)
 
   -- the lists of one fail: what was given is a front of all
-  pub given_failed : (node : ℕ) (labels : Labels) (left : List ℕ) (left_table : List Labels) (front lists : List Lists) (old mid new : Option (List ℕ)) →
-      AreGivenSoFar network back grain landmarks table (node ∷ left) (labels ∷ left_table) front → Appends old mid (lists_text front) →
-      ((pair : Lists) → AreListings network back grain node labels pair → AppendsFront mid new (pair_text pair)) →
-      AreAllListings network back grain landmarks table lists → AppendsFront old new (lists_text lists)
-  given_failed node labels left left_table front lists old mid new s given failed a =
-      let r = s.only lists a in step r.0 r.1 r.2
-    where
-      step : (rest : List Lists) → lists ≡ front ++ rest → AreAllListings network back grain (node ∷ left) (labels ∷ left_table) rest → AppendsFront old new (lists_text lists)
-      step [] e a = absurd a
-      step (q ∷ rest) e a =
-          second_failed old mid new (lists_text front) [] (lists_text (q ∷ rest)) (lists_text lists) (sends_all old mid (lists_text front) given)
-          (subst (AppendsFront mid new) (append_assoc (list_text q.from) (list_text q.to) (lists_text rest)) (front_wide mid new (pair_text q) (lists_text rest) (failed q a.0)))
-          (sym (lists_text-append front (q ∷ rest)) ∙ ap lists_text (sym e))
+  pub pair_cut : (place landmark : ℕ) (front : List ℕ) {old mid new : Option (List ℕ)} → slice_get landmarks place ≡ Some landmark → length table ≡ length landmarks → AreSoFar place front → Appends old mid front → IsCutOff (IsPairAt place landmark) mid new →
+      IsCutOff (AreTexts network back grain landmarks table) old new
+  pair_cut place landmark front {old} {mid} {new} at long s given c =
+      let both : IsCutOff (IsBoth (λ t. t ≡ front) (IsBoth (IsPairAt place landmark) (AreTexts network back grain (drop (place + 1) landmarks) (drop (place + 1) table)))) old new =
+      second_cut (same_one front) (record { text = front; so = refl; given = given }) (first_cut c) in
+      record { front = λ text a. both.front text ((left place landmark front at long s).only text a) }
 
--- the text grows by both lists
-pub pair_given : (old mid new : Option (List ℕ)) (front : List Lists) (pair : Lists) → Appends old mid (lists_text front) → Appends mid new (pair_text pair) → Appends old new (lists_text (front ++ pair ∷ []))
-pair_given old mid new front pair a b =
-    subst (Appends old new)
-    (ap (λ (t : List ℕ). lists_text front ++ t) (ap (λ (t : List ℕ). list_text pair.from ++ t) (sym (append-nil (list_text pair.to)))) ∙ sym (lists_text-append front (pair ∷ [])))
-    (Appends-trans old mid new (lists_text front) (pair_text pair) a b)
-
-module _ (network back : Network) (grain : ℕ) (landmarks : List ℕ) (table : List Labels) where
-  -- the lists of the landmark at a place
-  abbrev pub AreAt : ℕ → Lists → Type 0
-  AreAt place pair = (node : ℕ) → slice_get landmarks place ≡ Some node → AreListings network back grain node (labels_at table place) pair
-
-  left : (place : ℕ) (front : List Lists) → place < length landmarks → length table ≡ length landmarks →
-      AreGivenSoFar network back grain landmarks table (drop place landmarks) (drop place table) front →
-      AreGivenSoFar network back grain landmarks table (get_or landmarks place 0 ∷ drop (place + 1) landmarks) (labels_at table place ∷ drop (place + 1) table) front
-  left place front h long s =
-      let within : place < length table = omega arith in
-      subst (λ (ls : List Labels). AreGivenSoFar network back grain landmarks table (get_or landmarks place 0 ∷ drop (place + 1) landmarks) ls front) (drop_more table place (record { from = []; to = [] }) within)
-      (subst (λ (ns : List ℕ). AreGivenSoFar network back grain landmarks table ns (drop place table) front) (drop_more landmarks place 0 h) s)
-
-  pub given_next : (place : ℕ) (front : List Lists) (pair : Lists) → place < length landmarks → length table ≡ length landmarks →
-      AreGivenSoFar network back grain landmarks table (drop place landmarks) (drop place table) front → AreAt place pair →
-      AreGivenSoFar network back grain landmarks table (drop (place + 1) landmarks) (drop (place + 1) table) (front ++ pair ∷ [])
-  given_next place front pair h long s p =
-      given_more network back grain landmarks table (get_or landmarks place 0) (labels_at table place) (drop (place + 1) landmarks) (drop (place + 1) table) front pair
-      (left place front h long s) (p (get_or landmarks place 0) (slice_get-get_or landmarks place 0 h))
-
-  pub failed_at : (place : ℕ) (front lists : List Lists) (old mid new : Option (List ℕ)) → place < length landmarks → length table ≡ length landmarks →
-      AreGivenSoFar network back grain landmarks table (drop place landmarks) (drop place table) front → Appends old mid (lists_text front) →
-      ((node : ℕ) (pair : Lists) → slice_get landmarks place ≡ Some node → AreListings network back grain node (labels_at table place) pair → AppendsFront mid new (pair_text pair)) →
-      AreAllListings network back grain landmarks table lists → AppendsFront old new (lists_text lists)
-  failed_at place front lists old mid new h long s given failed a =
-      given_failed network back grain landmarks table (get_or landmarks place 0) (labels_at table place) (drop (place + 1) landmarks) (drop (place + 1) table) front lists old mid new
-      (left place front h long s) given (λ pair l. failed (get_or landmarks place 0) pair (slice_get-get_or landmarks place 0 h) l) a
-
-  pub all_given : (place : ℕ) (front : List Lists) → length landmarks ≤ place → length table ≡ length landmarks →
-      AreGivenSoFar network back grain landmarks table (drop place landmarks) (drop place table) front → AreAllListings network back grain landmarks table front
+  -- after the last
+  pub all_given : (place : ℕ) (front : List ℕ) → length landmarks ≤ place → length table ≡ length landmarks → AreSoFar place front → AreTexts network back grain landmarks table front
   all_given place front h long s =
-      given_all network back grain landmarks table front
-      (subst (λ (ls : List Labels). AreGivenSoFar network back grain landmarks table [] ls front) (drop_all place table (omega arith))
-      (subst (λ (ns : List ℕ). AreGivenSoFar network back grain landmarks table ns (drop place table) front) (drop_all place landmarks h) s))
+      let t = subst (λ (ls : List Labels). AreGivenSoFar network back grain landmarks table [] ls front) (drop_all place table (omega arith))
+      (subst (λ (ns : List ℕ). AreGivenSoFar network back grain landmarks table ns (drop place table) front) (drop_all place landmarks h) s) in
+      subst (AreTexts network back grain landmarks table) (append-nil front) (t.more [] refl)
+
+-- the texts of lists, and the lists of a text
+pub texts_of : (network back : Network) (grain : ℕ) (landmarks : List ℕ) (table : List Labels) (lists : List Lists) → AreAllListings network back grain landmarks table lists → AreTexts network back grain landmarks table (lists_text lists)
+texts_of network back grain [] [] [] a = refl
+texts_of network back grain [] [] (l ∷ lists) a = absurd a
+texts_of network back grain [] (t ∷ table) lists a = absurd a
+texts_of network back grain (n ∷ landmarks) [] lists a = absurd a
+texts_of network back grain (n ∷ landmarks) (t ∷ table) [] a = absurd a
+texts_of network back grain (n ∷ landmarks) (t ∷ table) (l ∷ lists) a =
+    (list_text l.from ++ list_text l.to, lists_text lists, (list_text l.from, list_text l.to, (l.from, a.0.from, refl), (l.to, a.0.to, refl), refl), texts_of network back grain landmarks table lists a.1,
+    sym (append_assoc (list_text l.from) (list_text l.to) (lists_text lists)))
+
+pub lists_of : (network back : Network) (grain : ℕ) (landmarks : List ℕ) (table : List Labels) (text : List ℕ) → AreTexts network back grain landmarks table text →
+    (lists : List Lists) × AreAllListings network back grain landmarks table lists × (text ≡ lists_text lists)
+lists_of network back grain [] [] text a = ([], tt, a)
+lists_of network back grain [] (t ∷ table) text a = absurd a
+lists_of network back grain (n ∷ landmarks) [] text a = absurd a
+lists_of network back grain (n ∷ landmarks) (t ∷ table) text a =
+    let rest = lists_of network back grain landmarks table a.1 a.3 in
+    let p = a.2 in
+    let l : Lists = record { from = p.2.0; to = p.3.0 } in
+    let pair : a.0 ≡ list_text l.from ++ list_text l.to = p.4 ∙ (ap (λ (x : List ℕ). x ++ p.1) p.2.2 ∙ ap (λ (x : List ℕ). list_text l.from ++ x) p.3.2) in
+    (l ∷ rest.0, (record { from = p.2.1; to = p.3.1 }, rest.1),
+    a.4 ∙ (ap (λ (x : List ℕ). x ++ a.1) pair ∙ (ap (λ (x : List ℕ). (list_text l.from ++ list_text l.to) ++ x) rest.2 ∙ append_assoc (list_text l.from) (list_text l.to) (lists_text rest.0))))

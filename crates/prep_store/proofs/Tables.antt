@@ -1,12 +1,11 @@
 -- Lists that were read, one landmark after another.
-use Rattle.std.specs.Prelude.{◌==◌, IfSome}
+use Rattle.std.specs.Prelude.{◌==◌}
 use Rattle.std.specs.List.{AllZip}
 use Rattle.std.proofs.Common.{◌≡◌, ℕ, ◌+◌, ◌<◌, ◌≤◌, false, All, Option, Some, None, unwrap_or, List, [], ◌∷◌, ◌++◌, map, length, take, drop, slice_index, slice_index_or, zero, suc, refl, sym, subst, ap, ◌∙◌, inl, inr, append_assoc, arith}
-use Rattle.std.proofs.lemmas.List.{length-map, length-take-le, append-nil}
-use Rattle.std.proofs.lemmas.List.Elements.{All-nil, All-cons, All-append}
+use Rattle.std.proofs.lemmas.List.{length-map, length-take-le, append-nil, get_or_past, get_or-map, take_more, map_push}
+use Rattle.std.proofs.lemmas.List.Elements.{All-nil, All-push}
 use Rattle.std.proofs.lemmas.Bool.{cases_lt}
 use Rattle.std.proofs.lemmas.Bool.Decides.{nat_tests}
-use Rattle.std.specs.Io.KnownBytes.{Consumes}
 use Rattle.gh_base.specs.declared.edges.NodeId.{NodeId}
 use Rattle.gh_base.specs.Networks.{Network}
 use Rattle.walk_rules.proofs.Options.{some_or_none}
@@ -18,15 +17,10 @@ use Rattle.prep_store.specs.declared.item.Item.{Item}
 use Rattle.prep_store.specs.Evidence.{label_in, AreListed}
 use Rattle.prep_store.specs.Stores.{list_text, Lists, lists_text, AreEvidence, AreOfLists}
 use Rattle.prep_store.specs.FirstFaults.{FailsInPair, FailsInLists}
-use Rattle.prep_store.specs.Readings.{Tells}
+use Rattle.prep_store.specs.Readings.{Place, Takes, Fails}
 use Rattle.prep_store.specs.Steps.{Listed, IsItem, number_in, AreRead}
-use Rattle.prep_store.proofs.Telling.{tell_through, same_total}
+use Rattle.prep_store.proofs.Telling.{fails_behind}
 use Rattle.prep_store.proofs.Rows.{listed_within}
-
-past_end : {A : Type 0} (xs : List (Option A)) (node : ℕ) → length xs ≤ node → slice_index_or xs node None ≡ None
-past_end [] node l = refl
-past_end (x ∷ xs) zero l = absurd (omega arith)
-past_end (x ∷ xs) (suc node) l = past_end xs node (omega arith)
 
 unpacked_of : (grain : ℕ) (label : Option ℕ) → ((l : ℕ) → label ≡ Some l → l < 65535) → unpacked grain (unwrap_or label 65535) ≡ in_ms grain label
 unpacked_of grain None small = refl
@@ -45,7 +39,7 @@ row_listed nodes grain items row long each are = record {
           | inr n ↦ n
           | inl s ↦ absurd (omega (arith, past, (listed_within nodes items node s.0 are s.1).0))
         ] in
-        past_end (map (unpacked grain) row) node (omega (arith, length-map row (unpacked grain), long)) ∙ sym (ap (in_ms grain) none)
+        get_or_past (map (unpacked grain) row) node None (omega (arith, length-map row (unpacked grain), long)) ∙ sym (ap (in_ms grain) none)
   ];
 }
 
@@ -54,10 +48,6 @@ zip_push R [] [] x y h r = (r, tt)
 zip_push R [] (b ∷ ys) x y h r = absurd h
 zip_push R (a ∷ xs) [] x y h r = absurd h
 zip_push R (a ∷ xs) (b ∷ ys) x y h r = (h.0, zip_push R xs ys x y h.1 r)
-
-map_push : {A B : Type 0} (f : A → B) (xs : List A) (x : A) → map f (xs ++ x ∷ []) ≡ map f xs ++ f x ∷ []
-map_push f [] x = refl
-map_push f (y ∷ xs) x = ap (λ zs. f y ∷ zs) (map_push f xs x)
 
 pub lists_push : (ls : List Lists) (l : Lists) → lists_text (ls ++ l ∷ []) ≡ lists_text ls ++ (list_text l.from ++ list_text l.to)
 lists_push [] l = ap (λ (bs : List ℕ). list_text l.from ++ bs) (append-nil (list_text l.to))
@@ -74,37 +64,15 @@ read_push network back grain landmarks lists table landmark l labels read eviden
   evidence = zip_push (AreEvidence network back grain) landmarks lists landmark l read.evidence evidence;
   labels = subst (λ ts. AllZip (AreOfLists network.nodes grain) (lists ++ l ∷ []) ts) (sym (map_push (unpacked_labels grain) table labels))
       (zip_push (AreOfLists network.nodes grain) lists (map (unpacked_labels grain) table) l (unpacked_labels grain labels) read.labels (record { from = from; to = to }));
-  long = All-append (AreLong network.nodes) table (labels ∷ []) read.long (All-cons (AreLong network.nodes) labels [] long (All-nil (AreLong network.nodes)));
+  long = All-push (AreLong network.nodes) table labels read.long long;
 }
-
--- the lists of one landmark fail behind those of others
-pub lists_fail : (network back : Network) (grain : ℕ) (landmarks before later : List ℕ) (landmark : ℕ) (lists : List Lists) (old new : Option (List ℕ)) (at0 at1 : ℕ) (fault : PrepFault) → landmarks ≡ before ++ landmark ∷ later → AllZip (AreEvidence network back grain) before lists →
-    Consumes old new (lists_text lists) → at1 ≡ at0 + length (lists_text lists) → Tells new (λ rest fault. FailsInPair network back grain landmark (length before) (at1 + length rest) rest fault) fault →
-    Tells old (λ rest fault. FailsInLists network back grain landmarks (at0 + length rest) rest fault) fault
-lists_fail network back grain landmarks before later landmark lists old new at0 at1 fault split evidence taken counted told =
-    tell_through (λ rest fault. FailsInPair network back grain landmark (length before) (at1 + length rest) rest fault) (λ rest fault. FailsInLists network back grain landmarks (at0 + length rest) rest fault) old new (lists_text lists) taken told
-    (λ rest after e f. record {
-      before = before;
-      landmark = landmark;
-      later = later;
-      landmarks_are = split;
-      right = lists;
-      evidence = evidence;
-      after = after;
-      bytes = e;
-      fails = subst (λ (n : ℕ). FailsInPair network back grain landmark (length before) n after fault) (same_total at0 at1 (lists_text lists) rest after counted e) f;
-    })
 
 abbrev pub numbers : List NodeId → List ℕ
 numbers nodes = map (λ node. node.0) nodes
 
 pub numbers_next : (nodes : List NodeId) (place : ℕ) (d : NodeId) → place < length nodes → take (place + 1) (numbers nodes) ≡ take place (numbers nodes) ++ (slice_index_or nodes place d).0 ∷ []
-numbers_next nodes place d l = let one : place + 1 ≡ suc place = omega arith in ap (λ (n : ℕ). take n (numbers nodes)) one ∙ go nodes place l
-  where
-    go : (nodes : List NodeId) (place : ℕ) → place < length nodes → take (suc place) (numbers nodes) ≡ take place (numbers nodes) ++ (slice_index_or nodes place d).0 ∷ []
-    go [] place l = absurd (omega arith)
-    go (x ∷ nodes) zero l = refl
-    go (x ∷ nodes) (suc place) l = ap (λ (ns : List ℕ). x.0 ∷ ns) (go nodes place (omega arith))
+numbers_next nodes place d l = take_more (numbers nodes) place 0 (omega (arith, length-map nodes (λ (node : NodeId). node.0)))
+    ∙ ap (λ (n : ℕ). take place (numbers nodes) ++ n ∷ []) (get_or-map (λ (node : NodeId). node.0) nodes place d 0 l)
 
 pub numbers_split : (nodes : List NodeId) (place : ℕ) (d : NodeId) → place < length nodes → numbers nodes ≡ take place (numbers nodes) ++ (slice_index_or nodes place d).0 ∷ drop (suc place) (numbers nodes)
 numbers_split [] place d l = absurd (omega arith)
@@ -114,24 +82,23 @@ numbers_split (x ∷ nodes) (suc place) d l = ap (λ (ns : List ℕ). x.0 ∷ ns
 pub numbers_long : (nodes : List NodeId) (place : ℕ) → place ≤ length nodes → length (take place (numbers nodes)) ≡ place
 numbers_long nodes place within = length-take-le place (numbers nodes) (omega (arith, length-map nodes (λ (node : NodeId). node.0)))
 
--- the lists of the landmark at a place fail
-pub pair_fails : (network back : Network) (grain : ℕ) (nodes : List NodeId) (place : ℕ) (d : NodeId) (lists : List Lists) (table : List PackedLabels) (old new : Option (List ℕ)) (at0 at1 : ℕ) (fault : PrepFault) → place < length nodes → AreRead network back grain (take place (numbers nodes)) lists table →
-    Consumes old new (lists_text lists) → at1 ≡ at0 + length (lists_text lists) → Tells new (λ rest fault. FailsInPair network back grain (slice_index_or nodes place d).0 place (at1 + length rest) rest fault) fault →
-    Tells old (λ rest fault. FailsInLists network back grain (numbers nodes) (at0 + length rest) rest fault) fault
-pair_fails network back grain nodes place d lists table old new at0 at1 fault within read taken counted told =
-    lists_fail network back grain (numbers nodes) (take place (numbers nodes)) (drop (suc place) (numbers nodes)) (slice_index_or nodes place d).0 lists old new at0 at1 fault (numbers_split nodes place d within) read.evidence taken counted
-    (subst (λ (n : ℕ). Tells new (λ rest fault. FailsInPair network back grain (slice_index_or nodes place d).0 n (at1 + length rest) rest fault) fault) (sym (numbers_long nodes place (omega arith))) told)
-
-pub consumes_nothing : (left : Option (List ℕ)) → Consumes left left []
-consumes_nothing None = tt
-consumes_nothing (Some xs) = refl
+-- the lists of the landmark at a place fail behind those of others
+pub pair_fails : {a b c : Place} {fault : PrepFault} (network back : Network) (grain : ℕ) (nodes : List NodeId) (place : ℕ) (d : NodeId) (lists : List Lists) (table : List PackedLabels) → place < length nodes →
+    AreRead network back grain (take place (numbers nodes)) lists table → Takes a b (lists_text lists) → Fails (FailsInPair network back grain (slice_index_or nodes place d).0 place) b c fault → Fails (FailsInLists network back grain (numbers nodes)) a c fault
+pair_fails {a} {b} {c} {fault} network back grain nodes place d lists table within read taken failed = fails_behind taken failed (λ total rest after e f. record {
+  before = take place (numbers nodes);
+  landmark = (slice_index_or nodes place d).0;
+  later = drop (suc place) (numbers nodes);
+  landmarks_are = numbers_split nodes place d within;
+  right = lists;
+  evidence = read.evidence;
+  after = after;
+  bytes = e;
+  fails = subst (λ (n : ℕ). FailsInPair network back grain (slice_index_or nodes place d).0 n total after fault) (sym (numbers_long nodes place (omega arith))) f;
+})
 
 pub none_read : (network back : Network) (grain : ℕ) → AreRead network back grain [] [] []
 none_read network back grain = record { evidence = tt; labels = tt; long = All-nil (AreLong network.nodes) }
-
-pub some_holds : {A : Type 0} (P : A → Type 0) (o : Option A) (x : A) → IfSome o P → o ≡ Some x → P x
-some_holds P None x h e = absurd (cc)
-some_holds P (Some y) x h e = let same : y ≡ x = cc in subst P same h
 
 -- a listing's row has the labels of its items
 pub listing_listed : (nodes grain : ℕ) (l : Listed) (row : List ℕ) → length row ≡ l.nodes → ((node : ℕ) → node < l.nodes → slice_index row node ≡ number_in l.items node) → All (IsItem l.nodes) l.items → l.nodes ≡ nodes → AreListed nodes grain l.items (map (unpacked grain) row)

@@ -2,13 +2,9 @@
 use Rattle.std.specs.List.{AllZip}
 use Rattle.std.specs.Prelude.{slice_get}
 use Rattle.std.proofs.Common.{◌≡◌, ◌<◌, ◌≤◌, ◌*◌, ℕ, Option, Some, None, List, [], ◌∷◌, ◌++◌, length, zero, suc, refl, sym, subst, ap, ◌∙◌, append_assoc, arith}
-use Rattle.std.specs.Io.KnownBytes.{Appends}
-use Rattle.std.proofs.KnownBytes.{Appends-trans}
 use Rattle.gh_base.specs.declared.edges.DirEdge.{DirEdge}
 use Rattle.gh_base.specs.Networks.{Network}
-use Rattle.gh_base.specs.Causes.{AppendsFront}
 use Rattle.base_graph.specs.Graphs.{Graph}
-use Rattle.plain_map.proofs.Sent.{sends_all, first_failed, second_failed}
 use Rattle.weighting.specs.declared.profile.Profile.{Profile}
 use Rattle.weighting.specs.declared.weight_view.Side.{Side}
 use Rattle.weighting.specs.Profiles.{profile_at}
@@ -22,9 +18,10 @@ use Rattle.landmark_prep.specs.Bounds.{labels_at}
 use Rattle.byteorder.specs.Endian.{big_bytes}
 use Rattle.traffic_core.specs.Lands.{Land, rule_alone}
 use Rattle.traffic_core.specs.History.{limit_in}
-use Rattle.prep_store.specs.Stores.{words, Lists, lists_text, head_text}
-use Rattle.prep_store.specs.Writing.{AreAllListings, store_text}
-use Rattle.prep_store.specs.Ordering.{front_text}
+use Rattle.prep_store.specs.Stores.{words, Lists, lists_text, head_text, roads_at, back_at}
+use Rattle.prep_store.specs.Writing.{store_text, IsStoreOf}
+use Rattle.prep_store.specs.Ordering.{front_text, IsBoth, AreTexts}
+use Rattle.prep_store.proofs.Listings.{texts_of, lists_of}
 
 -- a landmark is one of the nodes: it has a label, that of the walk of no hop
 label_of_own : (network : Network) (grain landmark : ℕ) (label : Option ℕ) → IsLabel (in_grains grain network) (65534 * grain) landmark landmark label → (x : ℕ) × (label ≡ Some x)
@@ -48,18 +45,12 @@ as_many Holds [] (l ∷ table) a = absurd a
 as_many Holds (x ∷ landmarks) [] a = absurd a
 as_many Holds (x ∷ landmarks) (l ∷ table) a = omega (arith, as_many Holds landmarks table a.1)
 
-module _ (network : Network) (count : ℕ) (prep : Preparation) (is : IsPrepOf network count prep) where
+module _ (network : Network) (prep : Preparation) (is : IsPrepOf network (length prep.landmarks) prep) where
   pub prep_nodes : (place node : ℕ) → slice_get prep.landmarks place ≡ Some node → node < network.nodes
   prep_nodes place node e = landmark_within network prep.grain node (labels_at prep.labels place) (all_at (AreLabelsOf network prep.grain) prep.landmarks prep.labels place node is.labels_are e)
 
   pub prep_table : length prep.labels ≡ length prep.landmarks
   prep_table = as_many (AreLabelsOf network prep.grain) prep.landmarks prep.labels is.labels_are
-
-  pub prep_fine : 1 ≤ prep.grain
-  prep_fine = omega (arith, is.placing.grain_is)
-
-  pub prep_coarse : prep.grain ≤ 70368744177664
-  prep_coarse = omega (arith, is.placing.grain_is)
 
 -- the text of a store is what stands before the lists, and the lists
 pub store_split : (land : Land) (prep : Preparation) (lists : List Lists) → store_text land prep lists ≡ front_text land prep ++ lists_text lists
@@ -77,22 +68,18 @@ seen_roads side land prep number own rule seen limits graph network is rule_is o
     ∙ (ap (λ (f : DirEdge → ℕ). network_of side (rule_alone (profile_at land.profiles prep.profile)) f graph) (seen_is ∙ ap limit_in limits_are)
     ∙ ap (λ (gr : Graph). network_of side (rule_alone (profile_at land.profiles prep.profile)) (limit_in prep.snapshot) gr) graph_is))
 
-module _ (land : Land) (prep : Preparation) (old mid new : Option (List ℕ)) (front : List ℕ) (front_is : front ≡ front_text land prep) where
-  -- all is given
-  pub whole_given : (lists : List Lists) → Appends old mid front → Appends mid new (lists_text lists) → Appends old new (store_text land prep lists)
-  whole_given lists a b =
-      subst (Appends old new) (ap (λ (t : List ℕ). t ++ lists_text lists) front_is ∙ sym (store_split land prep lists)) (Appends-trans old mid new front (lists_text lists) a b)
+-- the text of a store, and the store of a text
+abbrev IsWhole : Land → Preparation → List ℕ → Type 0
+IsWhole land prep text = IsBoth (λ t. t ≡ front_text land prep) (AreTexts (roads_at land prep.profile prep.snapshot) (back_at land prep.profile prep.snapshot) prep.grain prep.landmarks prep.labels) text
 
-  -- a front of what stands before the lists
-  pub front_failed : (lists : List Lists) → AppendsFront old mid front → AppendsFront old mid (store_text land prep lists)
-  front_failed lists a = first_failed old mid front (lists_text lists) (store_text land prep lists) a (ap (λ (t : List ℕ). t ++ lists_text lists) front_is ∙ sym (store_split land prep lists))
+pub text_of : (land : Land) (prep : Preparation) (text : List ℕ) → IsStoreOf land prep text → IsWhole land prep text
+text_of land prep text s = (front_text land prep, lists_text s.lists, refl, texts_of _ _ prep.grain prep.landmarks prep.labels s.lists s.listings, s.text_is ∙ store_split land prep s.lists)
 
-  -- and a front of the lists behind it
-  pub lists_failed : (lists : List Lists) → Appends old mid front → AppendsFront mid new (lists_text lists) → AppendsFront old new (store_text land prep lists)
-  lists_failed lists a b =
-      second_failed old mid new front [] (lists_text lists) (store_text land prep lists) (sends_all old mid front a) b (ap (λ (t : List ℕ). t ++ lists_text lists) front_is ∙ sym (store_split land prep lists))
+pub store_of : (land : Land) (prep : Preparation) (text : List ℕ) → IsWhole land prep text → IsStoreOf land prep text
+store_of land prep text w =
+    let l = lists_of (roads_at land prep.profile prep.snapshot) (back_at land prep.profile prep.snapshot) prep.grain prep.landmarks prep.labels w.1 w.3 in
+    record { lists = l.0; listings = l.1; text_is = w.4 ∙ (ap (λ (t : List ℕ). t ++ w.1) w.2 ∙ (ap (λ (t : List ℕ). front_text land prep ++ t) l.2 ∙ sym (store_split land prep l.0))) }
 
--- listings over networks that are the same
-pub listings_over : (a b c d : Network) (grain : ℕ) (landmarks : List ℕ) (table : List Labels) (lists : List Lists) → a ≡ b → c ≡ d → AreAllListings a c grain landmarks table lists → AreAllListings b d grain landmarks table lists
-listings_over a b c d grain landmarks table lists e f l =
-    subst (λ (n : Network). AreAllListings b n grain landmarks table lists) f (subst (λ (n : Network). AreAllListings n c grain landmarks table lists) e l)
+-- what holds over networks holds over the same ones
+pub texts_over : (Holds : Network → Network → Type 0) {a b c d : Network} → a ≡ b → c ≡ d → Holds a c → Holds b d
+texts_over Holds {a} {b} {c} {d} e f h = subst (λ (n : Network). Holds b n) f (subst (λ (n : Network). Holds n c) e h)

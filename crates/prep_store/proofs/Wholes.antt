@@ -1,162 +1,120 @@
 -- What is read of a whole store, and the faults of its parts.
-use Rattle.std.specs.Prelude.{IfSome}
+use Rattle.std.specs.Prelude.{IfSome, IfErr, Result, Ok, Err, true}
+use Rattle.std.specs.Result.{IsErrAnd}
 use Rattle.std.specs.List.{AllZip}
-use Rattle.std.proofs.Common.{◌≡◌, ℕ, ◌+◌, ◌*◌, ◌<◌, ◌≤◌, ◌^◌, All, Option, Some, None, List, [], ◌∷◌, ◌++◌, map, length, refl, sym, subst, ap, ◌∙◌, inl, inr, append_assoc, arith}
-use Rattle.std.proofs.lemmas.List.{length-append, length-map, append-nil}
+use Rattle.std.proofs.Common.{◌≡◌, ◌⊎◌, ℕ, ◌+◌, ◌*◌, ◌<◌, ◌≤◌, ◌^◌, All, Option, Some, None, List, [], ◌∷◌, ◌++◌, map, length, refl, sym, subst, ap, ◌∙◌, inl, inr, append_assoc, arith}
+use Rattle.std.proofs.lemmas.List.{length-map, append-nil}
 use Rattle.std.specs.Io.KnownBytes.{Consumes, IsAtEnd}
 use Rattle.byteorder.specs.Endian.{big_bytes}
 use Rattle.gh_base.specs.declared.edges.NodeId.{NodeId}
-use Rattle.gh_base.specs.declared.edges.DirEdge.{DirEdge}
 use Rattle.gh_base.specs.Networks.{Network, LeadsToNodes}
 use Rattle.walk_rules.specs.Walks.{AreTurned}
-use Rattle.base_graph.specs.Graphs.{Graph}
-use Rattle.weighting.specs.declared.weight_view.Side.{Side}
-use Rattle.weighting.specs.declared.profile.Profile.{Profile}
-use Rattle.weighting.specs.Profiles.{profile_at}
-use Rattle.weighting.specs.Rules.{Rule, rule_of}
-use Rattle.weighting.specs.Roads.{network_of}
 use Rattle.landmark_prep.specs.declared.labels.PackedLabels.{PackedLabels}
 use Rattle.landmark_prep.specs.Packing.{unpacked_labels, packed_nodes, AreLong, AreParts}
 use Rattle.landmark_prep.specs.Preparations.{Preparation, IsPlacing}
 use Rattle.landmark_prep.proofs.Prepared.{chosen_within}
-use Rattle.traffic_core.specs.Lands.{Land, rule_alone}
+use Rattle.traffic_core.specs.Lands.{Land}
 use Rattle.prep_store.specs.declared.fault.PrepFault.{PrepFault}
 use Rattle.prep_store.specs.Stores.{words, head_text, Lists, roads_at, back_at, HasHead, HasLimits, HasLandmarks, AreEvidence, AreOfLists, IsStored}
-use Rattle.prep_store.specs.FirstFaults.{IsCut, FailsInGrain, FailsInLists, IsFirstFault}
-use Rattle.prep_store.specs.Readings.{Tells}
+use Rattle.prep_store.specs.FirstFaults.{is_of_bytes, IsCut, Behind, FailsInHead, FailsInGrain, FailsInLists, IsFirstFault}
+use Rattle.prep_store.specs.Readings.{Place, Takes, Fails}
 use Rattle.prep_store.specs.Steps.{IsBehindLimits, text_behind, FailsBehindLimits, IsLeft}
-use Rattle.prep_store.proofs.Telling.{tell_through, same_total}
-use Rattle.prep_store.proofs.Faulting.{length-words}
-use Rattle.prep_store.proofs.Bytes.{consumed_more}
+use Rattle.prep_store.proofs.Telling.{taken_then, fails_as, fails_behind}
 use Rattle.prep_store.proofs.Tables.{numbers}
 
--- landmarks that are placed are nodes, and their grain isn't 0
+-- landmarks that are placed are nodes
 pub placed_within : (network : Network) (count : ℕ) (nodes : List NodeId) (grain : ℕ) → LeadsToNodes network → IsPlacing network count (numbers nodes) grain → All (λ landmark. landmark.0 < network.nodes) nodes
 placed_within network count nodes grain leads p = chosen_within network p.start nodes leads p.start_is.within p.landmarks_are.each
 
-pub placed_fine : (network : Network) (count : ℕ) (landmarks : List ℕ) (grain : ℕ) → IsPlacing network count landmarks grain → 1 ≤ grain
-placed_fine network count landmarks grain p = omega (arith, p.grain_is)
+-- what fails behind the landmarks
+pub behind_landmarks : {a b c : Place} {fault : PrepFault} (network back : Network) (count : ℕ) (landmarks : List ℕ) (grain : ℕ) → Takes a b (words landmarks) → length landmarks ≡ count → IsPlacing network count landmarks grain →
+    Fails (λ total after fault. FailsInGrain grain total after fault ⊎ Behind (big_bytes 8 grain) after (λ more. FailsInLists network back grain landmarks total more fault)) b c fault → Fails (FailsBehindLimits network back count) a c fault
+behind_landmarks network back count landmarks grain taken all placing failed =
+    fails_behind taken failed (λ total rest after e f. inr (record { landmarks = landmarks; grain = grain; after = after; bytes = e; all = all; placing = placing; fails = f }))
 
-module _ (network back : Network) (count : ℕ) (landmarks : List ℕ) (grain : ℕ) (old mid : Option (List ℕ)) (at0 at1 : ℕ) (fault : PrepFault) (taken : Consumes old mid (words landmarks)) (counted : at1 ≡ at0 + 4 * count) (all : length landmarks ≡ count) (placing : IsPlacing network count landmarks grain) where
-  total : (rest after : List ℕ) → rest ≡ words landmarks ++ after → at1 + length after ≡ at0 + length rest
-  total rest after e = same_total at0 at1 (words landmarks) rest after (omega (arith, counted, all, length-words landmarks)) e
+-- a fault of the whole, where so many are all the bytes
+abbrev pub IsFirstOf : Land → ℕ → List ℕ → PrepFault → Type 0
+IsFirstOf land total bytes fault = total ≡ length bytes → IsFirstFault land bytes fault
 
-  pub grain_fails : Tells mid (λ rest fault. FailsInGrain grain (at1 + length rest) rest fault) fault → Tells old (λ rest fault. FailsBehindLimits network back count (at0 + length rest) rest fault) fault
-  grain_fails told = tell_through (λ rest fault. FailsInGrain grain (at1 + length rest) rest fault) (λ rest fault. FailsBehindLimits network back count (at0 + length rest) rest fault) old mid (words landmarks) taken told
-      (λ rest after e f. inr (record {
-        landmarks = landmarks;
-        grain = grain;
-        after = after;
-        bytes = e;
-        all = all;
-        placing = placing;
-        fails = inl (subst (λ (n : ℕ). FailsInGrain grain n after fault) (total rest after e) f);
-      }))
+pub head_fails : {a b : Place} {fault : PrepFault} (land : Land) → Fails (FailsInHead land) a b fault → Fails (IsFirstOf land) a b fault
+head_fails {a} {b} {fault} land failed = fails_as failed (λ total bytes f same. inl (subst (λ (n : ℕ). FailsInHead land n bytes fault) same f))
 
-  pub lists_behind_fail : (new : Option (List ℕ)) (at2 : ℕ) → Consumes mid new (big_bytes 8 grain) → at2 ≡ at1 + 8 → Tells new (λ rest fault. FailsInLists network back grain landmarks (at2 + length rest) rest fault) fault → Tells old (λ rest fault. FailsBehindLimits network back count (at0 + length rest) rest fault) fault
-  lists_behind_fail new at2 has counted_grain told =
-      tell_through (λ rest fault. (more : List ℕ) × (rest ≡ big_bytes 8 grain ++ more) × FailsInLists network back grain landmarks (at1 + length rest) more fault) (λ rest fault. FailsBehindLimits network back count (at0 + length rest) rest fault) old mid (words landmarks) taken
-      (tell_through (λ rest fault. FailsInLists network back grain landmarks (at2 + length rest) rest fault) (λ rest fault. (more : List ℕ) × (rest ≡ big_bytes 8 grain ++ more) × FailsInLists network back grain landmarks (at1 + length rest) more fault) mid new (big_bytes 8 grain) has told
-      (λ rest after e f. (after, e, subst (λ (n : ℕ). FailsInLists network back grain landmarks n after fault) (same_total at1 at2 (big_bytes 8 grain) rest after counted_grain e) f)))
-      (λ rest after e f. inr (record {
-        landmarks = landmarks;
-        grain = grain;
-        after = after;
-        bytes = e;
-        all = all;
-        placing = placing;
-        fails = inr (f.0, f.1, subst (λ (n : ℕ). FailsInLists network back grain landmarks n f.0 fault) (total rest after e) f.2);
-      }))
+-- what a `?` hands on of it, from the first byte on
+pub first_fault : {T : Type 0} {a b : Place} {fault : PrepFault} (land : Land) (result : Result T PrepFault) → IsErrAnd result (λ e. e ≡ fault) → a.at ≡ 0 → Fails (IsFirstOf land) a b fault →
+    IfErr result (λ fault. is_of_bytes fault ≡ true → IfSome a.left (λ bytes. IsFirstFault land bytes fault))
+first_fault land (Ok x) e zero f = tt
+first_fault {T} {a} {b} {fault} land (Err x) e zero f =
+    subst (λ (y : PrepFault). is_of_bytes y ≡ true → IfSome a.left (λ bytes. IsFirstFault land bytes y)) (sym e) (λ of. go a.left (f.told of))
+  where
+    go : (left : Option (List ℕ)) → IfSome left (λ bytes. IsFirstOf land (a.at + length bytes) bytes fault) → IfSome left (λ bytes. IsFirstFault land bytes fault)
+    go None h = tt
+    go (Some bytes) h = h (omega arith)
 
--- a view's network is that of its profile at its limits
-pub network_is : (side : Side) (land : Land) (profile : ℕ) (own : Profile) (rule : Rule) (seen limits : DirEdge → ℕ) (graph : Graph) (network : Network) → network ≡ network_of side rule seen graph → rule ≡ rule_of own None → own ≡ profile_at land.profiles profile → seen ≡ limits → graph ≡ land.graph →
-    network ≡ network_of side (rule_alone (profile_at land.profiles profile)) limits land.graph
-network_is side land profile own rule seen limits graph network is rule_is own_is limits_are graph_is =
-    is ∙ (ap (λ (r : Rule). network_of side r seen graph) (rule_is ∙ ap (λ (p : Profile). rule_of p None) own_is)
-    ∙ (ap (λ (f : DirEdge → ℕ). network_of side (rule_alone (profile_at land.profiles profile)) f graph) limits_are
-    ∙ ap (λ (gr : Graph). network_of side (rule_alone (profile_at land.profiles profile)) limits gr) graph_is))
+-- head and limits were taken
+pub record AreTaken (land : Land) (a b c : Place) (profile count : ℕ) (snapshot : List ℕ) : Type 0 where
+  pub head : Takes a b (head_text land profile count)
+  pub there : profile < length land.profiles
+  pub word : profile < 2 ^ 32
+  pub some : 1 ≤ count
+  pub few : count ≤ 16
+  pub limits : Takes b c (words snapshot)
+  pub long : length snapshot ≡ 2 * length land.graph.edges
+  pub each : All (λ limit. limit < 2 ^ 32) snapshot
 
-module _ (land : Land) (first second : Option (List ℕ)) (profile count at1 : ℕ) (head : Consumes first second (head_text land profile count)) (counted : at1 ≡ 24) (there : profile < length land.profiles) (word : profile < 2 ^ 32) (some : 1 ≤ count) (few : count ≤ 16) where
-  has_head : (bytes rest : List ℕ) → bytes ≡ head_text land profile count ++ rest → HasHead land bytes profile count rest
-  has_head bytes rest e = record { bytes_are = e; there = there; word = word; some = some; few = few }
+pub parts_fail : {land : Land} {a b c d : Place} {profile count : ℕ} {snapshot : List ℕ} {fault : PrepFault} → AreTaken land a b c profile count snapshot → Fails (FailsBehindLimits (roads_at land profile snapshot) (back_at land profile snapshot) count) c d fault →
+    Fails (IsFirstOf land) a d fault
+parts_fail {land} {a} {b} {c} {d} {profile} {count} {snapshot} {fault} t failed = fails_behind (taken_then t.head t.limits) failed (λ total bytes rest e f same.
+    whole bytes rest e (subst (λ (n : ℕ). FailsBehindLimits (roads_at land profile snapshot) (back_at land profile snapshot) count n rest fault) same f))
+  where
+    has : (bytes rest : List ℕ) → bytes ≡ (head_text land profile count ++ words snapshot) ++ rest → HasLimits land bytes profile count snapshot rest
+    has bytes rest e = record { head = record { bytes_are = e ∙ append_assoc (head_text land profile count) (words snapshot) rest; there = t.there; word = t.word; some = t.some; few = t.few }; long = t.long; each = t.each }
 
-  pub limits_fail : (fault : PrepFault) → Tells second (λ rest fault. IsCut (8 * length land.graph.edges) (at1 + length rest) rest fault) fault → Tells first (λ bytes fault. IsFirstFault land bytes fault) fault
-  limits_fail fault told = tell_through (λ rest fault. IsCut (8 * length land.graph.edges) (at1 + length rest) rest fault) (λ bytes fault. IsFirstFault land bytes fault) first second (head_text land profile count) head told
-      (λ bytes rest e f.
-      let total : at1 + length rest ≡ length bytes = omega (arith, same_total 0 at1 (head_text land profile count) bytes rest (omega (arith, counted)) e) in
-      inr (inl (profile, count, rest, has_head bytes rest e, subst (λ (n : ℕ). IsCut (8 * length land.graph.edges) n rest fault) total f)))
-
-  module _ (third : Option (List ℕ)) (snapshot : List ℕ) (at2 : ℕ) (limits : Consumes second third (words snapshot)) (counted_limits : at2 ≡ at1 + 8 * length land.graph.edges) (long : length snapshot ≡ 2 * length land.graph.edges) (each : All (λ limit. limit < 2 ^ 32) snapshot) where
-    front : List ℕ
-    front = head_text land profile count ++ words snapshot
-
-    has_limits : (bytes rest : List ℕ) → bytes ≡ (head_text land profile count ++ words snapshot) ++ rest → HasLimits land bytes profile count snapshot rest
-    has_limits bytes rest e = record { head = has_head bytes (words snapshot ++ rest) (e ∙ append_assoc (head_text land profile count) (words snapshot) rest); long = long; each = each }
-
-    fails_whole : (fault : PrepFault) (bytes rest : List ℕ) → bytes ≡ (head_text land profile count ++ words snapshot) ++ rest → FailsBehindLimits (roads_at land profile snapshot) (back_at land profile snapshot) count (length bytes) rest fault → IsFirstFault land bytes fault
-    fails_whole fault bytes rest e (inl f) = inr (inr (inl (profile, count, snapshot, rest, has_limits bytes rest e, f)))
-    fails_whole fault bytes rest e (inr b) =
-        let has : HasLandmarks land bytes profile snapshot b.landmarks b.grain b.after = record {
-          limits = subst (λ (n : ℕ). HasLimits land bytes profile n snapshot (words b.landmarks ++ b.after)) (sym b.all) (subst (λ (r : List ℕ). HasLimits land bytes profile count snapshot r) b.bytes (has_limits bytes rest e));
-          placing = subst (λ (n : ℕ). IsPlacing (roads_at land profile snapshot) n b.landmarks b.grain) (sym b.all) b.placing;
+    whole : (bytes rest : List ℕ) → bytes ≡ (head_text land profile count ++ words snapshot) ++ rest → FailsBehindLimits (roads_at land profile snapshot) (back_at land profile snapshot) count (length bytes) rest fault → IsFirstFault land bytes fault
+    whole bytes rest e (inl f) = inr (inr (inl (profile, count, snapshot, rest, has bytes rest e, f)))
+    whole bytes rest e (inr f) =
+        let placed : HasLandmarks land bytes profile snapshot f.landmarks f.grain f.after = record {
+          limits = subst (λ (n : ℕ). HasLimits land bytes profile n snapshot (words f.landmarks ++ f.after)) (sym f.all) (subst (λ (r : List ℕ). HasLimits land bytes profile count snapshot r) f.bytes (has bytes rest e));
+          placing = subst (λ (n : ℕ). IsPlacing (roads_at land profile snapshot) n f.landmarks f.grain) (sym f.all) f.placing;
         } in
-        elim b.fails [
-          | inl f ↦ inr (inr (inr (inl (profile, b.grain, snapshot, b.landmarks, b.after, has, f))))
-          | inr f ↦ inr (inr (inr (inr (inl (profile, b.grain, snapshot, b.landmarks, f.0, subst (λ (r : List ℕ). HasLandmarks land bytes profile snapshot b.landmarks b.grain r) f.1 has, f.2)))))
+        elim f.fails [
+          | inl x ↦ inr (inr (inr (inl (profile, f.grain, snapshot, f.landmarks, f.after, placed, x))))
+          | inr x ↦ inr (inr (inr (inr (inl (profile, f.grain, snapshot, f.landmarks, x.0, subst (λ (r : List ℕ). HasLandmarks land bytes profile snapshot f.landmarks f.grain r) x.1 placed, x.2)))))
         ]
 
-    pub parts_fail : (fault : PrepFault) → Tells third (λ rest fault. FailsBehindLimits (roads_at land profile snapshot) (back_at land profile snapshot) count (at2 + length rest) rest fault) fault → Tells first (λ bytes fault. IsFirstFault land bytes fault) fault
-    parts_fail fault told =
-        tell_through (λ rest fault. FailsBehindLimits (roads_at land profile snapshot) (back_at land profile snapshot) count (at2 + length rest) rest fault) (λ bytes fault. IsFirstFault land bytes fault) first third (head_text land profile count ++ words snapshot)
-        (consumed_more first second third (head_text land profile count) (words snapshot) head limits) told
-        (λ bytes rest e f.
-        let counts : at2 ≡ 0 + length (head_text land profile count ++ words snapshot) = omega (arith, counted, counted_limits, long, length-words snapshot, length-append (head_text land profile count) (words snapshot)) in
-        let total : at2 + length rest ≡ length bytes = omega (arith, same_total 0 at2 (head_text land profile count ++ words snapshot) bytes rest counts e) in
-        fails_whole fault bytes rest e (subst (λ (n : ℕ). FailsBehindLimits (roads_at land profile snapshot) (back_at land profile snapshot) count n rest fault) total f))
+module _ (land : Land) (a b c d : Place) (profile count : ℕ) (snapshot : List ℕ) (t : AreTaken land a b c profile count snapshot) (landmarks : List ℕ) (grain : ℕ) (lists : List Lists) (table : List PackedLabels)
+    (behind : Takes c d (text_behind landmarks grain lists)) (read : IsBehindLimits (roads_at land profile snapshot) (back_at land profile snapshot) count landmarks grain lists table) where
+  abbrev whole : List ℕ
+  whole = head_text land profile (length landmarks) ++ (words snapshot ++ text_behind landmarks grain lists)
 
-    module _ (fourth : Option (List ℕ)) (landmarks : List ℕ) (grain : ℕ) (lists : List Lists) (table : List PackedLabels) (behind : Consumes third fourth (text_behind landmarks grain lists)) (read : IsBehindLimits (roads_at land profile snapshot) (back_at land profile snapshot) count landmarks grain lists table) where
-      prep : Preparation
-      prep = record { profile = profile; snapshot = snapshot; landmarks = landmarks; grain = grain; labels = map (unpacked_labels grain) table }
+  abbrev prep : Preparation
+  prep = record { profile = profile; snapshot = snapshot; landmarks = landmarks; grain = grain; labels = map (unpacked_labels grain) table }
 
-      abbrev whole : List ℕ
-      whole = head_text land profile (length landmarks) ++ (words snapshot ++ text_behind landmarks grain lists)
+  pub stored_whole : IsStored land (record { profile = profile; snapshot = snapshot; landmarks = landmarks; grain = grain; labels = map (unpacked_labels grain) table }) whole
+  stored_whole = (
+    lists,
+    record {
+      landmarks = record {
+        limits = record { head = record { bytes_are = refl; there = t.there; word = t.word; some = omega (arith, read.all, t.some); few = omega (arith, read.all, t.few) }; long = t.long; each = t.each };
+        placing = subst (λ (n : ℕ). IsPlacing (roads_at land profile snapshot) n landmarks grain) (sym read.all) read.placing;
+      };
+      evidence = read.read.evidence;
+      labels = read.read.labels;
+    },
+  )
 
-      pub stored_whole : IsStored land (record { profile = profile; snapshot = snapshot; landmarks = landmarks; grain = grain; labels = map (unpacked_labels grain) table }) whole
-      stored_whole = (
-        lists,
-        record {
-          landmarks = record {
-            limits = record {
-              head = record { bytes_are = refl; there = there; word = word; some = omega (arith, read.all); few = omega (arith, read.all) };
-              long = long;
-              each = each;
-            };
-            placing = subst (λ (n : ℕ). IsPlacing (roads_at land profile snapshot) n landmarks grain) (sym read.all) read.placing;
-          };
-          evidence = read.read.evidence;
-          labels = read.read.labels;
-        },
-      )
+  taken_whole : Takes a d whole
+  taken_whole = taken_then (subst (λ (n : ℕ). Takes a b (head_text land profile n)) (sym read.all) t.head) (taken_then t.limits behind)
 
-      taken_whole : Consumes first fourth whole
-      taken_whole = consumed_more first second fourth (head_text land profile (length landmarks)) (words snapshot ++ text_behind landmarks grain lists)
-          (subst (λ (n : ℕ). Consumes first second (head_text land profile n)) (sym read.all) head)
-          (consumed_more second third fourth (words snapshot) (text_behind landmarks grain lists) limits behind)
+  pub stored_all : {e : Place} → Takes d e [] → IsAtEnd e.left → IfSome a.left (IsStored land (record { profile = profile; snapshot = snapshot; landmarks = landmarks; grain = grain; labels = map (unpacked_labels grain) table }))
+  stored_all {e} nothing end = go a.left e.left (taken_then taken_whole nothing).bytes end
+    where
+      go : (one two : Option (List ℕ)) → Consumes one two (whole ++ []) → IsAtEnd two → IfSome one (IsStored land prep)
+      go None two h end = tt
+      go (Some xs) None h end = absurd h
+      go (Some xs) (Some ys) h end = subst (λ (bs : List ℕ). IsStored land prep bs) (sym (h ∙ (ap (λ (r : List ℕ). (whole ++ []) ++ r) end ∙ (append-nil (whole ++ []) ∙ append-nil whole)))) stored_whole
 
-      pub stored_all : (fifth : Option (List ℕ)) → Consumes fourth fifth [] → IsAtEnd fifth → IfSome first (IsStored land (record { profile = profile; snapshot = snapshot; landmarks = landmarks; grain = grain; labels = map (unpacked_labels grain) table }))
-      stored_all fifth nothing end = go first fourth fifth taken_whole nothing end
-        where
-          go : (one two three : Option (List ℕ)) → Consumes one two whole → Consumes two three [] → IsAtEnd three → IfSome one (IsStored land (record { profile = profile; snapshot = snapshot; landmarks = landmarks; grain = grain; labels = map (unpacked_labels grain) table }))
-          go None two three t n e = tt
-          go (Some xs) None three t n e = absurd t
-          go (Some xs) (Some ys) None t n e = absurd n
-          go (Some xs) (Some ys) (Some zs) t n e =
-              let same : xs ≡ whole = t ∙ (ap (λ (r : List ℕ). whole ++ r) (n ∙ e) ∙ append-nil whole) in
-              subst (λ (bs : List ℕ). IsStored land (record { profile = profile; snapshot = snapshot; landmarks = landmarks; grain = grain; labels = map (unpacked_labels grain) table }) bs) (sym same) stored_whole
-
-      pub end_fails : (fault : PrepFault) → Tells fourth IsLeft fault → Tells first (λ bytes fault. IsFirstFault land bytes fault) fault
-      end_fails fault told = tell_through IsLeft (λ bytes fault. IsFirstFault land bytes fault) first fourth whole taken_whole told
-          (λ bytes rest e f. inr (inr (inr (inr (inr (record { profile = profile; snapshot = snapshot; landmarks = landmarks; grain = grain; labels = map (unpacked_labels grain) table }, whole, f.0, f.1, stored_whole, e ∙ ap (λ (r : List ℕ). whole ++ r) f.2, f.3))))))
+  pub end_fails : {e : Place} {fault : PrepFault} → Fails (λ _. IsLeft) d e fault → Fails (IsFirstOf land) a e fault
+  end_fails failed = fails_behind taken_whole failed (λ total bytes rest e f same. inr (inr (inr (inr (inr (prep, whole, f.0, f.1, stored_whole, e ∙ ap (λ (r : List ℕ). whole ++ r) f.2, f.3))))))
 
 -- what was read can be a preparation
 zip_long : {A B : Type 0} (R : A → B → Type 0) (xs : List A) (ys : List B) → AllZip R xs ys → length ys ≡ length xs
@@ -182,7 +140,7 @@ are_parts network back count grain nodes lists table b some few small coarse =
       each = as_many;
       long = subst (λ (n : ℕ). All (AreLong n) table) (sym nodes_are) b.read.long;
       nodes = omega (arith, nodes_are);
-      fine = placed_fine network count (numbers nodes) grain b.placing;
+      fine = omega (arith, b.placing.grain_is);
       coarse = coarse;
     }
 

@@ -1,7 +1,9 @@
 -- Private: what is known while the nodes of a landmark are listed, between two of them and between two hops.
-use Rattle.std.specs.Prelude.{◌≡◌, ◌⊎◌, ℕ, ◌+◌, ◌*◌, ◌<◌, Bool, true, false, Option, Some, None, is_none, IsSome, List, ◌++◌, length, Contains, slice_set}
+use Rattle.std.specs.Prelude.{◌≡◌, ◌⊎◌, ℕ, ◌+◌, ◌*◌, ◌<◌, Bool, true, false, Option, Some, None, is_none, IsSome, List, [], ◌∷◌, ◌++◌, length, Contains, slice_set}
+use Rattle.std.specs.Io.KnownBytes.{Appends}
 use Rattle.gh_base.specs.declared.edges.Hop.{Hop}
 use Rattle.gh_base.specs.Networks.{Network}
+use Rattle.gh_base.specs.Causes.{AppendsFront}
 use Rattle.walk_rules.specs.Distances.{label_at}
 use Rattle.walk_rules.specs.Starts.{count_below}
 use Rattle.search_queue.specs.Keys.{key_at}
@@ -12,9 +14,9 @@ use Rattle.landmark_prep.specs.Preparations.{Preparation}
 use Rattle.landmark_prep.specs.Bounds.{labels_at}
 use Rattle.prep_store.specs.declared.item.Item.{Item}
 use Rattle.prep_store.specs.Evidence.{label_in, label_after}
-use Rattle.prep_store.specs.Stores.{words, Lists, list_text, head_text}
+use Rattle.prep_store.specs.Stores.{words, list_text, head_text}
 use Rattle.prep_store.specs.Steps.{Listed}
-use Rattle.prep_store.specs.Writing.{IsCandidate, AreNext, IsListing, AreAllListings}
+use Rattle.prep_store.specs.Writing.{IsCandidate, AreNext, IsListing}
 
 -- the labels of a landmark from it, or to it
 abbrev pub side_of : Bool → Labels → List (Option ℕ)
@@ -88,12 +90,35 @@ abbrev pub front_text : Land → Preparation → List ℕ
 front_text land prep =
     head_text land prep.profile (length prep.landmarks) ++ (words prep.snapshot ++ (words prep.landmarks ++ big_bytes 8 prep.grain))
 
--- both lists of a landmark
-abbrev pub pair_text : Lists → List ℕ
-pair_text lists = list_text lists.from ++ list_text lists.to
+-- a text of the list of a landmark
+abbrev pub IsListText : Network → ℕ → ℕ → (ℕ → Option ℕ) → List ℕ → Type 0
+IsListText network grain landmark labels text = (items : List Item) × IsListing network grain landmark labels items × (text ≡ list_text items)
+
+-- two texts, one behind the other
+abbrev pub IsBoth : (List ℕ → Type 0) → (List ℕ → Type 0) → List ℕ → Type 0
+IsBoth First Second text = (first second : List ℕ) × First first × Second second × (text ≡ first ++ second)
+
+-- those of both lists of a landmark
+abbrev pub IsPairText : Network → Network → ℕ → ℕ → Labels → List ℕ → Type 0
+IsPairText network back grain landmark labels text = IsBoth (IsListText network grain landmark (label_at labels.from)) (IsListText back grain landmark (label_at labels.to)) text
+
+-- those of each landmark
+abbrev pub AreTexts : Network → Network → ℕ → List ℕ → List Labels → List ℕ → Type 0
+AreTexts network back grain [] [] text = text ≡ []
+AreTexts network back grain (landmark ∷ landmarks) (labels ∷ table) text = IsBoth (IsPairText network back grain landmark labels) (AreTexts network back grain landmarks table) text
+AreTexts network back grain landmarks table text = ⊥
+
+-- such a text was given to a sink
+pub record IsGiven (IsSo : List ℕ → Type 0) (old new : Option (List ℕ)) : Type 0 where
+  pub text : List ℕ
+  pub so : IsSo text
+  pub given : Appends old new text
+
+-- of each such text a front was given
+pub record IsCutOff (IsSo : List ℕ → Type 0) (old new : Option (List ℕ)) : Type 0 where
+  pub front : (text : List ℕ) → IsSo text → AppendsFront old new text
 
 -- the lists of some landmarks are in front of those of all, and nothing else is
-pub record AreGivenSoFar (network back : Network) (grain : ℕ) (landmarks : List ℕ) (table : List Labels) (left : List ℕ) (left_table : List Labels) (front : List Lists) : Type 0 where
-  pub more : (rest : List Lists) → AreAllListings network back grain left left_table rest → AreAllListings network back grain landmarks table (front ++ rest)
-  pub only : (lists : List Lists) → AreAllListings network back grain landmarks table lists →
-      (rest : List Lists) × (lists ≡ front ++ rest) × AreAllListings network back grain left left_table rest
+pub record AreGivenSoFar (network back : Network) (grain : ℕ) (landmarks : List ℕ) (table : List Labels) (left : List ℕ) (left_table : List Labels) (front : List ℕ) : Type 0 where
+  pub more : (rest : List ℕ) → AreTexts network back grain left left_table rest → AreTexts network back grain landmarks table (front ++ rest)
+  pub only : (text : List ℕ) → AreTexts network back grain landmarks table text → IsBoth (λ t. t ≡ front) (AreTexts network back grain left left_table) text

@@ -1,10 +1,9 @@
 //! The head of a store, and the limits behind it.
 ghost use Rattle.std.specs.Prelude.{◌≡◌, ◌+◌, ◌*◌, ◌++◌, ◌<◌, ◌≤◌, ◌^◌, length, All, IfOk, IfErr, OnOk};
-ghost use Rattle.std.specs.Io.KnownBytes.{Consumes};
 ghost use Rattle.byteorder.specs.Endian.{big_bytes};
 ghost use Rattle.prep_store.specs.Stores.{magic, words, head_text};
 ghost use Rattle.prep_store.specs.FirstFaults.{IsCut, FailsInMagic, FailsInProfile, FailsInSizes, FailsInCount, FailsInHead};
-ghost use Rattle.prep_store.specs.Readings.{Tells, IsCaused};
+ghost use Rattle.prep_store.specs.Readings.{place, Takes, Fails};
 
 use crate::fault::PrepFault;
 use crate::units::{read_two, read_u32, read_whole};
@@ -19,7 +18,7 @@ const MAGIC: &[u8] = b"GHPREP01";
 const MOST_LANDMARKS: u32 = 16;
 
 /// What a head says besides the sizes of the roads.
-#[derive(Clone, Copy, Debug)]
+#[derive(Clone, Copy)]
 pub(crate) struct Head {
     pub(crate) profile: u32,
     pub(crate) count: u32,
@@ -28,11 +27,8 @@ pub(crate) struct Head {
 /// Reads the first bytes, which tell a store.
 fn read_magic<S: Source>(source: &mut S, at: &mut u64) -> Result<(), PrepFault>
     requires { at.old ≤ 2 ^ 62 }
-    ensures text { OnOk result (Consumes (S.left source.old) (S.left source.new) magic) }
-    ensures counted { OnOk result (at.new ≡ at.old + 8) }
-    ensures fails { IfErr result (Tells (S.left source.old) (λ rest. FailsInMagic (at.old + length rest) rest)) }
-    ensures cause { IsCaused (S.faults source.old) (S.faults source.new) result }
-    ensures mark { S.mark source.new ≡ S.mark source.old }
+    ensures text { OnOk result (Takes (place S.left S.faults S.mark source.old at.old) (place S.left S.faults S.mark source.new at.new) magic) }
+    ensures fails { IfErr result (Fails FailsInMagic (place S.left S.faults S.mark source.old at.old) (place S.left S.faults S.mark source.new at.new)) }
 {
     let mut buf = [0; 8];
     read_whole(source, at, &mut buf)?;
@@ -45,13 +41,10 @@ fn read_magic<S: Source>(source: &mut S, at: &mut u64) -> Result<(), PrepFault>
 /// Reads a profile of the ground.
 fn read_profile<S: Source>(ground: &Ground, source: &mut S, at: &mut u64) -> Result<u32, PrepFault>
     requires { at.old ≤ 2 ^ 62 }
-    ensures text { IfOk result (λ profile. Consumes (S.left source.old) (S.left source.new) (big_bytes 4 profile)) }
+    ensures text { IfOk result (λ profile. Takes (place S.left S.faults S.mark source.old at.old) (place S.left S.faults S.mark source.new at.new) (big_bytes 4 profile)) }
     ensures there { IfOk result (λ profile. profile < length ground.now.profiles) }
     ensures word { IfOk result (λ profile. profile < 2 ^ 32) }
-    ensures counted { OnOk result (at.new ≡ at.old + 4) }
-    ensures fails { IfErr result (Tells (S.left source.old) (λ rest. FailsInProfile ground.now (at.old + length rest) rest)) }
-    ensures cause { IsCaused (S.faults source.old) (S.faults source.new) result }
-    ensures mark { S.mark source.new ≡ S.mark source.old }
+    ensures fails { IfErr result (Fails (FailsInProfile ground.now) (place S.left S.faults S.mark source.old at.old) (place S.left S.faults S.mark source.new at.new)) }
 {
     let profile = read_u32(source, at)?;
     if profile as usize >= ground.profiles().len() {
@@ -63,11 +56,8 @@ fn read_profile<S: Source>(ground: &Ground, source: &mut S, at: &mut u64) -> Res
 /// Reads the sizes of the ground.
 fn read_sizes<S: Source>(ground: &Ground, source: &mut S, at: &mut u64) -> Result<(), PrepFault>
     requires { at.old ≤ 2 ^ 62 }
-    ensures text { OnOk result (Consumes (S.left source.old) (S.left source.new) (big_bytes 4 (length ground.now.graph.places) ++ big_bytes 4 (length ground.now.graph.edges))) }
-    ensures counted { OnOk result (at.new ≡ at.old + 8) }
-    ensures fails { IfErr result (Tells (S.left source.old) (λ rest. FailsInSizes ground.now (at.old + length rest) rest)) }
-    ensures cause { IsCaused (S.faults source.old) (S.faults source.new) result }
-    ensures mark { S.mark source.new ≡ S.mark source.old }
+    ensures text { OnOk result (Takes (place S.left S.faults S.mark source.old at.old) (place S.left S.faults S.mark source.new at.new) (big_bytes 4 (length ground.now.graph.places) ++ big_bytes 4 (length ground.now.graph.edges))) }
+    ensures fails { IfErr result (Fails (FailsInSizes ground.now) (place S.left S.faults S.mark source.old at.old) (place S.left S.faults S.mark source.new at.new)) }
 {
     let (towers, edges) = read_two(source, at)?;
     let graph = ground.graph();
@@ -80,13 +70,10 @@ fn read_sizes<S: Source>(ground: &Ground, source: &mut S, at: &mut u64) -> Resul
 /// Reads a number of landmarks.
 fn read_count<S: Source>(source: &mut S, at: &mut u64) -> Result<u32, PrepFault>
     requires { at.old ≤ 2 ^ 62 }
-    ensures text { IfOk result (λ count. Consumes (S.left source.old) (S.left source.new) (big_bytes 4 count)) }
+    ensures text { IfOk result (λ count. Takes (place S.left S.faults S.mark source.old at.old) (place S.left S.faults S.mark source.new at.new) (big_bytes 4 count)) }
     ensures some { IfOk result (λ count. 1 ≤ count) }
     ensures few { IfOk result (λ count. count ≤ 16) }
-    ensures counted { OnOk result (at.new ≡ at.old + 4) }
-    ensures fails { IfErr result (Tells (S.left source.old) (λ rest. FailsInCount (at.old + length rest) rest)) }
-    ensures cause { IsCaused (S.faults source.old) (S.faults source.new) result }
-    ensures mark { S.mark source.new ≡ S.mark source.old }
+    ensures fails { IfErr result (Fails FailsInCount (place S.left S.faults S.mark source.old at.old) (place S.left S.faults S.mark source.new at.new)) }
 {
     let count = read_u32(source, at)?;
     if count == 0 || count > MOST_LANDMARKS {
@@ -102,15 +89,12 @@ pub(crate) fn read_head<S: Source>(
     at: &mut u64,
 ) -> Result<Head, PrepFault>
     requires { at.old ≤ 2 ^ 60 }
-    ensures text { IfOk result (λ head. Consumes (S.left source.old) (S.left source.new) (head_text ground.now head.profile head.count)) }
+    ensures text { IfOk result (λ head. Takes (place S.left S.faults S.mark source.old at.old) (place S.left S.faults S.mark source.new at.new) (head_text ground.now head.profile head.count)) }
     ensures there { IfOk result (λ head. head.profile < length ground.now.profiles) }
     ensures word { IfOk result (λ head. head.profile < 2 ^ 32) }
     ensures some { IfOk result (λ head. 1 ≤ head.count) }
     ensures few { IfOk result (λ head. head.count ≤ 16) }
-    ensures counted { OnOk result (at.new ≡ at.old + 24) }
-    ensures fails { IfErr result (Tells (S.left source.old) (λ rest. FailsInHead ground.now (at.old + length rest) rest)) }
-    ensures cause { IsCaused (S.faults source.old) (S.faults source.new) result }
-    ensures mark { S.mark source.new ≡ S.mark source.old }
+    ensures fails { IfErr result (Fails (FailsInHead ground.now) (place S.left S.faults S.mark source.old at.old) (place S.left S.faults S.mark source.new at.new)) }
 {
     read_magic(source, at)?;
     let profile = read_profile(ground, source, at)?;
@@ -127,13 +111,10 @@ pub(crate) fn read_limits<S: Source>(
     edges: u32,
 ) -> Result<LimitList, PrepFault>
     requires { at.old ≤ 2 ^ 60 }
-    ensures text { IfOk result (λ limits. Consumes (S.left source.old) (S.left source.new) (words limits)) }
+    ensures text { IfOk result (λ limits. Takes (place S.left S.faults S.mark source.old at.old) (place S.left S.faults S.mark source.new at.new) (words limits)) }
     ensures long { IfOk result (λ limits. length limits ≡ 2 * edges) }
     ensures each { IfOk result (λ limits. All (λ limit. limit < 2 ^ 32) limits) }
-    ensures counted { OnOk result (at.new ≡ at.old + 8 * edges) }
-    ensures cut { IfErr result (Tells (S.left source.old) (λ rest. IsCut (8 * edges) (at.old + length rest) rest)) }
-    ensures cause { IsCaused (S.faults source.old) (S.faults source.new) result }
-    ensures mark { S.mark source.new ≡ S.mark source.old }
+    ensures fails { IfErr result (Fails (IsCut (8 * edges)) (place S.left S.faults S.mark source.old at.old) (place S.left S.faults S.mark source.new at.new)) }
 {
     let mut limits = LimitList::new(alloc);
     'limits: for _ in 0..2 * u64::from(edges) {

@@ -1,7 +1,6 @@
 //! The lists of landmarks, which are read and checked to be evidence.
 ghost use Rattle.std.specs.Prelude.{◌≡◌, ◌↔◌, ◌+◌, ◌*◌, ◌++◌, ◌<◌, ◌≤◌, ◌^◌, ℕ, [], List, Some, None, IsTrue, length, map, IfOk, IfErr, OnOk, IfNone, IfSome, Contains, All};
 ghost use Rattle.std.specs.List.{AllZip};
-ghost use Rattle.std.specs.Io.KnownBytes.{Consumes};
 ghost use Rattle.byteorder.specs.Endian.{big_bytes};
 ghost use Rattle.gh_base.specs.Networks.{Network, LeadsToNodes};
 ghost use Rattle.walk_rules.specs.Walks.{AreTurned};
@@ -11,7 +10,7 @@ ghost use Rattle.prep_store.specs.Evidence.{label_in, MayFollow, MayAllFollow, I
 ghost use Rattle.prep_store.specs.Stores.{Lists, items_text, list_text, lists_text, AreEvidence, AreOfLists};
 ghost use Rattle.prep_store.specs.FirstFaults.{FailsInItems, FailsInList, FailsInPair, FailsInLists};
 ghost use Rattle.prep_store.specs.Steps.{IsItem, AreRead};
-ghost use Rattle.prep_store.specs.Readings.{Tells, IsCaused};
+ghost use Rattle.prep_store.specs.Readings.{place, Takes, Fails};
 
 use crate::fault::PrepFault;
 use crate::hops::{is_reached, open_at};
@@ -72,15 +71,12 @@ fn read_items<S: Source, W: RoadView>(
     requires landmark { landmark.0 < (W.network back.old).nodes }
     requires count { W.starts back.old ≡ 0 }
     requires fine { 1 ≤ grain }
-    ensures text { OnOk result (Consumes (S.left source.old) (S.left source.new) (items_text listing.new.items)) }
+    ensures text { OnOk result (Takes (place S.left S.faults S.mark source.old at.old) (place S.left S.faults S.mark source.new at.new) (items_text listing.new.items)) }
     ensures each { OnOk result (length listing.new.items ≡ count) }
     ensures nodes { OnOk result (listing.new.nodes ≡ listing.old.nodes) }
     ensures order { (network : Network) → AreTurned network (W.network back.old) → LeadsToNodes network → OnOk result (MayAllFollow network grain landmark.0 [] listing.new.items) }
-    ensures counted { OnOk result (at.new ≡ at.old + 6 * count) }
     ensures fails { (network : Network) → AreTurned network (W.network back.old) → LeadsToNodes network →
-        IfErr result (Tells (S.left source.old) (λ rest. FailsInItems network grain landmark.0 which count (at.old + length rest) rest)) }
-    ensures cause { IsCaused (S.faults source.old) (S.faults source.new) result }
-    ensures mark { S.mark source.new ≡ S.mark source.old }
+        IfErr result (Fails (FailsInItems network grain landmark.0 which count) (place S.left S.faults S.mark source.old at.old) (place S.left S.faults S.mark source.new at.new)) }
 {
     'items: for place in 0..count {
         let item = read_item(source, at)?;
@@ -132,15 +128,12 @@ fn read_list<S: Source, V: FreshView + Drop, W: FreshView + Drop>(
     requires turned { AreTurned (V.network out.now) (W.network back.now) }
     requires landmark { landmark.0 < (V.network out.now).nodes }
     requires fine { 1 ≤ grain }
-    ensures text { IfOk result (λ list. Consumes (S.left source.old) (S.left source.new) (list_text list.items)) }
+    ensures text { IfOk result (λ list. Takes (place S.left S.faults S.mark source.old at.old) (place S.left S.faults S.mark source.new at.new) (list_text list.items)) }
     ensures word { IfOk result (λ list. length list.items < 2 ^ 32) }
     ensures evidence { IfOk result (λ list. IsEvidence (V.network out.now) grain landmark.0 list.items) }
     ensures nodes { IfOk result (λ list. list.nodes ≡ (V.network out.now).nodes) }
-    ensures counted { IfOk result (λ list. at.new ≡ at.old + length (list_text list.items)) }
     ensures bounded { OnOk result (at.new ≤ at.old + 2 ^ 36) }
-    ensures fails { IfErr result (Tells (S.left source.old) (λ rest. FailsInList (V.network out.now) grain landmark.0 which (at.old + length rest) rest)) }
-    ensures cause { IsCaused (S.faults source.old) (S.faults source.new) result }
-    ensures mark { S.mark source.new ≡ S.mark source.old }
+    ensures fails { IfErr result (Fails (FailsInList (V.network out.now) grain landmark.0 which) (place S.left S.faults S.mark source.old at.old) (place S.left S.faults S.mark source.new at.new)) }
 {
     let count = read_u32(source, at)?;
     if count == 0 {
@@ -195,15 +188,12 @@ fn read_pair<S: Source, V: FreshView + Drop, W: FreshView + Drop>(
     requires turned { AreTurned (V.network out.now) (W.network back.now) }
     requires landmark { landmark.0 < (V.network out.now).nodes }
     requires fine { 1 ≤ grain }
-    ensures text { IfOk result (λ pair. Consumes (S.left source.old) (S.left source.new) (list_text pair.from.items ++ list_text pair.to.items)) }
+    ensures text { IfOk result (λ pair. Takes (place S.left S.faults S.mark source.old at.old) (place S.left S.faults S.mark source.new at.new) (list_text pair.from.items ++ list_text pair.to.items)) }
     ensures evidence { IfOk result (λ pair. AreEvidence (V.network out.now) (W.network back.now) grain landmark.0 (record { from = pair.from.items; to = pair.to.items })) }
     ensures from { IfOk result (λ pair. pair.from.nodes ≡ (V.network out.now).nodes) }
     ensures to { IfOk result (λ pair. pair.to.nodes ≡ (V.network out.now).nodes) }
-    ensures counted { IfOk result (λ pair. at.new ≡ at.old + length (list_text pair.from.items ++ list_text pair.to.items)) }
     ensures bounded { OnOk result (at.new ≤ at.old + 2 ^ 37) }
-    ensures fails { IfErr result (Tells (S.left source.old) (λ rest. FailsInPair (V.network out.now) (W.network back.now) grain landmark.0 number (at.old + length rest) rest)) }
-    ensures cause { IsCaused (S.faults source.old) (S.faults source.new) result }
-    ensures mark { S.mark source.new ≡ S.mark source.old }
+    ensures fails { IfErr result (Fails (FailsInPair (V.network out.now) (W.network back.now) grain landmark.0 number) (place S.left S.faults S.mark source.old at.old) (place S.left S.faults S.mark source.new at.new)) }
 {
     walks_turn_round();
     let from = Which {
@@ -234,11 +224,9 @@ pub(crate) fn read_lists<S: Source, V: FreshView + Drop, W: FreshView + Drop>(
     requires turned { AreTurned (V.network out.now) (W.network back.now) }
     requires landmarks { All (λ landmark. landmark.0 < (V.network out.now).nodes) landmarks.now }
     requires fine { 1 ≤ grain }
-    ensures read { IfOk result (λ table. (lists : List Lists) × Consumes (S.left source.old) (S.left source.new) (lists_text lists)
+    ensures read { IfOk result (λ table. (lists : List Lists) × Takes (place S.left S.faults S.mark source.old at.old) (place S.left S.faults S.mark source.new at.new) (lists_text lists)
         × AreRead (V.network out.now) (W.network back.now) grain (map (λ node. node.0) landmarks.now) lists table) }
-    ensures fails { IfErr result (Tells (S.left source.old) (λ rest. FailsInLists (V.network out.now) (W.network back.now) grain (map (λ node. node.0) landmarks.now) (at.old + length rest) rest)) }
-    ensures cause { IsCaused (S.faults source.old) (S.faults source.new) result }
-    ensures mark { S.mark source.new ≡ S.mark source.old }
+    ensures fails { IfErr result (Fails (FailsInLists (V.network out.now) (W.network back.now) grain (map (λ node. node.0) landmarks.now)) (place S.left S.faults S.mark source.old at.old) (place S.left S.faults S.mark source.new at.new)) }
 {
     let mut table = LabelTable::new(alloc);
     'lists: for place in 0..landmarks.len() {

@@ -1,13 +1,12 @@
 //! Landmarks and grain, which are placed anew and compared.
 ghost use Rattle.std.specs.Prelude.{◌≡◌, ◌↔◌, ◌+◌, ◌*◌, ◌<◌, ◌≤◌, ◌^◌, Some, IsTrue, length, map, slice_get, ℕ, IfOk, IfErr, OnOk};
-ghost use Rattle.std.specs.Io.KnownBytes.{Consumes};
 ghost use Rattle.byteorder.specs.Endian.{big_bytes};
 ghost use Rattle.gh_base.specs.Causes.{Rose};
 ghost use Rattle.walk_rules.specs.Walks.{AreTurned};
 ghost use Rattle.landmark_prep.specs.Preparations.{IsPlacing};
 ghost use Rattle.prep_store.specs.Stores.{words};
 ghost use Rattle.prep_store.specs.FirstFaults.{IsCut, FailsByRule, FailsInLandmarks, FailsInGrain};
-ghost use Rattle.prep_store.specs.Readings.{Tells, IsCaused};
+ghost use Rattle.prep_store.specs.Readings.{place, Takes, Fails};
 
 use crate::fault::PrepFault;
 use crate::units::{read_u32, read_u64};
@@ -34,12 +33,9 @@ fn check_landmarks<S: Source>(
 ) -> Result<(), PrepFault>
     requires small { at.old ≤ 2 ^ 60 }
     requires few { length right.now ≤ count }
-    ensures text { OnOk result (Consumes (S.left source.old) (S.left source.new) (words (map (λ node. node.0) right.now))) }
+    ensures text { OnOk result (Takes (place S.left S.faults S.mark source.old at.old) (place S.left S.faults S.mark source.new at.new) (words (map (λ node. node.0) right.now))) }
     ensures all { OnOk result (length right.now ≡ count) }
-    ensures counted { OnOk result (at.new ≡ at.old + 4 * count) }
-    ensures fails { IfErr result (Tells (S.left source.old) (λ rest. FailsByRule (λ place node. slice_get (map (λ node. node.0) right.now) place ≡ Some node) count (at.old + length rest) rest)) }
-    ensures cause { IsCaused (S.faults source.old) (S.faults source.new) result }
-    ensures mark { S.mark source.new ≡ S.mark source.old }
+    ensures fails { IfErr result (Fails (FailsByRule (λ place node. slice_get (map (λ node. node.0) right.now) place ≡ Some node) count) (place S.left S.faults S.mark source.old at.old) (place S.left S.faults S.mark source.new at.new)) }
 {
     'landmarks: for place in 0..count {
         let number = read_u32(source, at)?;
@@ -53,10 +49,7 @@ fn check_landmarks<S: Source>(
 /// Reads the first landmark where there should be none.
 fn refuse_landmarks<S: Source>(source: &mut S, at: &mut u64) -> PrepFault
     requires { at.old ≤ 2 ^ 60 }
-    ensures fails { Tells (S.left source.old) (λ rest fault. (count : ℕ) → 0 < count → FailsByRule (λ _ _. ⊥) count (at.old + length rest) rest fault) result }
-    ensures later { S.faults source.old ≤ S.faults source.new }
-    ensures fault { result ≡ PrepFault.ReadFault → Rose (S.faults source.old) (S.faults source.new) }
-    ensures mark { S.mark source.new ≡ S.mark source.old }
+    ensures { (count : ℕ) → 0 < count → Fails (FailsByRule (λ _ _. ⊥) count) (place S.left S.faults S.mark source.old at.old) (place S.left S.faults S.mark source.new at.new) result }
 {
     match read_u32(source, at) {
         Ok(_) => PrepFault::Landmarks { place: 0 },
@@ -81,11 +74,8 @@ pub(crate) fn read_landmarks<S: Source, V: FreshView + Drop, W: FreshView + Drop
     ensures placing { IfOk result (λ placing. IsPlacing (V.network out.now) count (map (λ node. node.0) placing.landmarks) placing.grain) }
     ensures all { IfOk result (λ placing. length placing.landmarks ≡ count) }
     ensures coarse { IfOk result (λ placing. placing.grain ≤ 2 ^ 46) }
-    ensures text { IfOk result (λ placing. Consumes (S.left source.old) (S.left source.new) (words (map (λ node. node.0) placing.landmarks))) }
-    ensures counted { OnOk result (at.new ≡ at.old + 4 * count) }
-    ensures fails { IfErr result (Tells (S.left source.old) (λ rest. FailsInLandmarks (V.network out.now) count (at.old + length rest) rest)) }
-    ensures cause { IsCaused (S.faults source.old) (S.faults source.new) result }
-    ensures mark { S.mark source.new ≡ S.mark source.old }
+    ensures text { IfOk result (λ placing. Takes (place S.left S.faults S.mark source.old at.old) (place S.left S.faults S.mark source.new at.new) (words (map (λ node. node.0) placing.landmarks))) }
+    ensures fails { IfErr result (Fails (FailsInLandmarks (V.network out.now) count) (place S.left S.faults S.mark source.old at.old) (place S.left S.faults S.mark source.new at.new)) }
 {
     let placed = place_landmarks(alloc, out, back, count)?;
     match placed {
@@ -104,11 +94,8 @@ pub(crate) fn check_grain<S: Source>(
     grain: u64,
 ) -> Result<(), PrepFault>
     requires { at.old ≤ 2 ^ 62 }
-    ensures text { OnOk result (Consumes (S.left source.old) (S.left source.new) (big_bytes 8 grain)) }
-    ensures counted { OnOk result (at.new ≡ at.old + 8) }
-    ensures fails { IfErr result (Tells (S.left source.old) (λ rest. FailsInGrain grain (at.old + length rest) rest)) }
-    ensures cause { IsCaused (S.faults source.old) (S.faults source.new) result }
-    ensures mark { S.mark source.new ≡ S.mark source.old }
+    ensures text { OnOk result (Takes (place S.left S.faults S.mark source.old at.old) (place S.left S.faults S.mark source.new at.new) (big_bytes 8 grain)) }
+    ensures fails { IfErr result (Fails (FailsInGrain grain) (place S.left S.faults S.mark source.old at.old) (place S.left S.faults S.mark source.new at.new)) }
 {
     let other = read_u64(source, at)?;
     if other != grain {

@@ -1,12 +1,12 @@
 //! A store read back.
 ghost use Rattle.std.specs.Prelude.{◌≡◌, ◌+◌, ◌*◌, ◌<◌, ◌≤◌, ◌^◌, true, List, length, map, IfOk, IfErr, IfSome, OnOk, IsErrOf};
-ghost use Rattle.std.specs.Io.KnownBytes.{Consumes, IsAtEnd};
+ghost use Rattle.std.specs.Io.KnownBytes.{IsAtEnd};
 ghost use Rattle.gh_base.specs.Causes.{Rose};
 ghost use Rattle.walk_rules.specs.Walks.{AreTurned};
 ghost use Rattle.traffic_core.specs.Truth.{IsTrueOver};
 ghost use Rattle.prep_store.specs.Stores.{Lists, IsStored, roads_at, back_at};
 ghost use Rattle.prep_store.specs.FirstFaults.{is_of_bytes, IsFirstFault};
-ghost use Rattle.prep_store.specs.Readings.{Tells, IsCaused};
+ghost use Rattle.prep_store.specs.Readings.{place, Takes, Fails};
 ghost use Rattle.prep_store.specs.Steps.{IsBehindLimits, text_behind, FailsBehindLimits};
 
 use crate::fault::PrepFault;
@@ -43,12 +43,10 @@ fn read_over<S: Source, V: FreshView + Drop, W: FreshView + Drop>(
     requires some { 1 ≤ count }
     requires few { count ≤ 16 }
     ensures read { IfOk result (λ parts. (lists : List Lists)
-        × Consumes (S.left source.old) (S.left source.new) (text_behind (map (λ node. node.0) parts.placing.landmarks) parts.placing.grain lists)
+        × Takes (place S.left S.faults S.mark source.old at.old) (place S.left S.faults S.mark source.new at.new) (text_behind (map (λ node. node.0) parts.placing.landmarks) parts.placing.grain lists)
         × IsBehindLimits (V.network out.now) (W.network back.now) count (map (λ node. node.0) parts.placing.landmarks) parts.placing.grain lists parts.labels) }
     ensures coarse { IfOk result (λ parts. parts.placing.grain ≤ 2 ^ 46) }
-    ensures fails { IfErr result (Tells (S.left source.old) (λ rest. FailsBehindLimits (V.network out.now) (W.network back.now) count (at.old + length rest) rest)) }
-    ensures cause { IsCaused (S.faults source.old) (S.faults source.new) result }
-    ensures mark { S.mark source.new ≡ S.mark source.old }
+    ensures fails { IfErr result (Fails (FailsBehindLimits (V.network out.now) (W.network back.now) count) (place S.left S.faults S.mark source.old at.old) (place S.left S.faults S.mark source.new at.new)) }
 {
     let placing = read_landmarks(alloc, source, at, out, back, count)?;
     check_grain(source, at, placing.grain)?;
@@ -72,12 +70,10 @@ fn read_parts<S: Source>(
     requires some { 1 ≤ head.count }
     requires few { head.count ≤ 16 }
     ensures read { IfOk result (λ parts. (lists : List Lists)
-        × Consumes (S.left source.old) (S.left source.new) (text_behind (map (λ node. node.0) parts.placing.landmarks) parts.placing.grain lists)
+        × Takes (place S.left S.faults S.mark source.old at.old) (place S.left S.faults S.mark source.new at.new) (text_behind (map (λ node. node.0) parts.placing.landmarks) parts.placing.grain lists)
         × IsBehindLimits (roads_at ground.now head.profile snapshot.now) (back_at ground.now head.profile snapshot.now) head.count (map (λ node. node.0) parts.placing.landmarks) parts.placing.grain lists parts.labels) }
     ensures coarse { IfOk result (λ parts. parts.placing.grain ≤ 2 ^ 46) }
-    ensures fails { IfErr result (Tells (S.left source.old) (λ rest. FailsBehindLimits (roads_at ground.now head.profile snapshot.now) (back_at ground.now head.profile snapshot.now) head.count (at.old + length rest) rest)) }
-    ensures cause { IsCaused (S.faults source.old) (S.faults source.new) result }
-    ensures mark { S.mark source.new ≡ S.mark source.old }
+    ensures fails { IfErr result (Fails (FailsBehindLimits (roads_at ground.now head.profile snapshot.now) (back_at ground.now head.profile snapshot.now) head.count) (place S.left S.faults S.mark source.old at.old) (place S.left S.faults S.mark source.new at.new)) }
 {
     let graph = ground.graph();
     let weighting = Weighting::new(ground.profile(head.profile), None);

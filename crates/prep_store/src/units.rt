@@ -1,12 +1,12 @@
 //! Numbers and items, as they come from a source.
-ghost use Rattle.std.specs.Prelude.{◌≡◌, ◌+◌, ◌++◌, ◌<◌, ◌≤◌, ◌^◌, [], length, take, IfOk, IfErr, OnOk};
+ghost use Rattle.std.specs.Prelude.{◌≡◌, ◌+◌, ◌++◌, ◌<◌, ◌≤◌, ◌^◌, ℕ, [], length, take, IfOk, IfErr, OnOk};
 ghost use Rattle.std.specs.Io.KnownBytes.{Consumes, IsAtEnd};
 ghost use Rattle.byteorder.specs.Endian.{big_bytes};
 ghost use Rattle.gh_base.specs.Causes.{HasCause};
 ghost use Rattle.prep_store.specs.Stores.{item_text};
 ghost use Rattle.prep_store.specs.FirstFaults.{IsCut};
 ghost use Rattle.prep_store.specs.Steps.{IsEachByte, IsLeft};
-ghost use Rattle.prep_store.specs.Readings.{Tells, IsCaused};
+ghost use Rattle.prep_store.specs.Readings.{place, Takes, Fails};
 
 use crate::fault::PrepFault;
 use crate::item::Item;
@@ -44,13 +44,9 @@ pub(crate) fn read_whole<S: Source>(
     requires small { at.old ≤ 2 ^ 62 }
     requires short { length buf.old ≤ 8 }
     requires bytes { IsEachByte buf.old }
-    ensures bytes { OnOk result (Consumes (S.left source.old) (S.left source.new) buf.new) }
-    ensures counted { OnOk result (at.new ≡ at.old + length buf.old) }
-    ensures long { length buf.new ≡ length buf.old }
+    ensures taken { OnOk result (Takes (place S.left S.faults S.mark source.old at.old) (place S.left S.faults S.mark source.new at.new) buf.new) }
     ensures small { IsEachByte buf.new }
-    ensures cut { IfErr result (Tells (S.left source.old) (λ rest. IsCut (length buf.old) (at.old + length rest) rest)) }
-    ensures cause { IsCaused (S.faults source.old) (S.faults source.new) result }
-    ensures mark { S.mark source.new ≡ S.mark source.old }
+    ensures fails { IfErr result (Fails (IsCut (length buf.old)) (place S.left S.faults S.mark source.old at.old) (place S.left S.faults S.mark source.new at.new)) }
 {
     let Ok(count) = fill(source, buf) else {
         return Err(PrepFault::ReadFault);
@@ -67,12 +63,9 @@ pub(crate) fn read_whole<S: Source>(
 /// A number in four bytes.
 pub(crate) fn read_u32<S: Source>(source: &mut S, at: &mut u64) -> Result<u32, PrepFault>
     requires { at.old ≤ 2 ^ 62 }
-    ensures number { IfOk result (λ n. Consumes (S.left source.old) (S.left source.new) (big_bytes 4 n)) }
+    ensures number { IfOk result (λ n. Takes (place S.left S.faults S.mark source.old at.old) (place S.left S.faults S.mark source.new at.new) (big_bytes 4 n)) }
     ensures word { IfOk result (λ n. n < 2 ^ 32) }
-    ensures counted { OnOk result (at.new ≡ at.old + 4) }
-    ensures cut { IfErr result (Tells (S.left source.old) (λ rest. IsCut 4 (at.old + length rest) rest)) }
-    ensures cause { IsCaused (S.faults source.old) (S.faults source.new) result }
-    ensures mark { S.mark source.new ≡ S.mark source.old }
+    ensures fails { IfErr result (Fails (IsCut 4) (place S.left S.faults S.mark source.old at.old) (place S.left S.faults S.mark source.new at.new)) }
 {
     let mut buf = [0; 4];
     read_whole(source, at, &mut buf)?;
@@ -82,11 +75,8 @@ pub(crate) fn read_u32<S: Source>(source: &mut S, at: &mut u64) -> Result<u32, P
 /// Two numbers in four bytes each, which are taken together.
 pub(crate) fn read_two<S: Source>(source: &mut S, at: &mut u64) -> Result<(u32, u32), PrepFault>
     requires { at.old ≤ 2 ^ 62 }
-    ensures numbers { IfOk result (λ two. Consumes (S.left source.old) (S.left source.new) (big_bytes 4 two.0 ++ big_bytes 4 two.1)) }
-    ensures counted { OnOk result (at.new ≡ at.old + 8) }
-    ensures cut { IfErr result (Tells (S.left source.old) (λ rest. IsCut 8 (at.old + length rest) rest)) }
-    ensures cause { IsCaused (S.faults source.old) (S.faults source.new) result }
-    ensures mark { S.mark source.new ≡ S.mark source.old }
+    ensures numbers { IfOk result (λ two. Takes (place S.left S.faults S.mark source.old at.old) (place S.left S.faults S.mark source.new at.new) (big_bytes 4 two.0 ++ big_bytes 4 two.1)) }
+    ensures fails { IfErr result (Fails (IsCut 8) (place S.left S.faults S.mark source.old at.old) (place S.left S.faults S.mark source.new at.new)) }
 {
     let mut buf = [0; 8];
     read_whole(source, at, &mut buf)?;
@@ -96,11 +86,8 @@ pub(crate) fn read_two<S: Source>(source: &mut S, at: &mut u64) -> Result<(u32, 
 /// A number in eight bytes.
 pub(crate) fn read_u64<S: Source>(source: &mut S, at: &mut u64) -> Result<u64, PrepFault>
     requires { at.old ≤ 2 ^ 62 }
-    ensures number { IfOk result (λ n. Consumes (S.left source.old) (S.left source.new) (big_bytes 8 n)) }
-    ensures counted { OnOk result (at.new ≡ at.old + 8) }
-    ensures cut { IfErr result (Tells (S.left source.old) (λ rest. IsCut 8 (at.old + length rest) rest)) }
-    ensures cause { IsCaused (S.faults source.old) (S.faults source.new) result }
-    ensures mark { S.mark source.new ≡ S.mark source.old }
+    ensures number { IfOk result (λ n. Takes (place S.left S.faults S.mark source.old at.old) (place S.left S.faults S.mark source.new at.new) (big_bytes 8 n)) }
+    ensures fails { IfErr result (Fails (IsCut 8) (place S.left S.faults S.mark source.old at.old) (place S.left S.faults S.mark source.new at.new)) }
 {
     let mut buf = [0; 8];
     read_whole(source, at, &mut buf)?;
@@ -110,13 +97,10 @@ pub(crate) fn read_u64<S: Source>(source: &mut S, at: &mut u64) -> Result<u64, P
 /// An item of a list.
 pub(crate) fn read_item<S: Source>(source: &mut S, at: &mut u64) -> Result<Item, PrepFault>
     requires { at.old ≤ 2 ^ 62 }
-    ensures item { IfOk result (λ item. Consumes (S.left source.old) (S.left source.new) (item_text item)) }
+    ensures item { IfOk result (λ item. Takes (place S.left S.faults S.mark source.old at.old) (place S.left S.faults S.mark source.new at.new) (item_text item)) }
     ensures node { IfOk result (λ item. item.node.0 < 2 ^ 32) }
     ensures label { IfOk result (λ item. item.label < 2 ^ 16) }
-    ensures counted { OnOk result (at.new ≡ at.old + 6) }
-    ensures cut { IfErr result (Tells (S.left source.old) (λ rest. IsCut 6 (at.old + length rest) rest)) }
-    ensures cause { IsCaused (S.faults source.old) (S.faults source.new) result }
-    ensures mark { S.mark source.new ≡ S.mark source.old }
+    ensures fails { IfErr result (Fails (IsCut 6) (place S.left S.faults S.mark source.old at.old) (place S.left S.faults S.mark source.new at.new)) }
 {
     let mut buf = [0; 6];
     read_whole(source, at, &mut buf)?;
@@ -128,11 +112,9 @@ pub(crate) fn read_item<S: Source>(source: &mut S, at: &mut u64) -> Result<Item,
 
 /// Reads the end.
 pub(crate) fn read_end<S: Source>(source: &mut S) -> Result<(), PrepFault>
-    ensures nothing { OnOk result (Consumes (S.left source.old) (S.left source.new) []) }
+    ensures taken { OnOk result ((at : ℕ) → Takes (place S.left S.faults S.mark source.old at) (place S.left S.faults S.mark source.new at) []) }
     ensures end { OnOk result (IsAtEnd (S.left source.new)) }
-    ensures fails { IfErr result (Tells (S.left source.old) IsLeft) }
-    ensures cause { IsCaused (S.faults source.old) (S.faults source.new) result }
-    ensures mark { S.mark source.new ≡ S.mark source.old }
+    ensures fails { IfErr result (λ fault. (at : ℕ) → Fails (λ _. IsLeft) (place S.left S.faults S.mark source.old at) (place S.left S.faults S.mark source.new at) fault) }
 {
     let mut buf = [0; 1];
     let Ok(count) = fill(source, &mut buf) else {

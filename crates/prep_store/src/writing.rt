@@ -1,14 +1,13 @@
 //! A preparation written as a store.
-ghost use Rattle.std.specs.Prelude.{◌≡◌, ◌*◌, ◌++◌, ◌<◌, ◌≤◌, ◌^◌, ℕ, List, length, slice_get, Some, IfOk, OnOk, OnErr, IsErrOf};
+ghost use Rattle.std.specs.Prelude.{◌≡◌, ◌<◌, ◌≤◌, ◌^◌, ℕ, List, length, slice_get, Some, IfOk, OnOk, OnErr, IsErrOf};
 ghost use Rattle.std.specs.Io.KnownBytes.{Appends};
 ghost use Rattle.gh_base.specs.Causes.{Rose, AppendsFront};
 ghost use Rattle.landmark_prep.specs.Preparations.{nodes_of};
 ghost use Rattle.landmark_prep.specs.Bounds.{labels_at};
 ghost use Rattle.traffic_core.specs.Truth.{IsTrueOver};
-ghost use Rattle.prep_store.specs.declared.item.Item.{Item};
-ghost use Rattle.prep_store.specs.Stores.{list_text, Lists, lists_text};
-ghost use Rattle.prep_store.specs.Ordering.{told_label, front_text, pair_text};
-ghost use Rattle.prep_store.specs.Writing.{IsListing, AreListings, AreAllListings, IsStoreOf};
+ghost use Rattle.prep_store.specs.Stores.{list_text, roads_at, back_at};
+ghost use Rattle.prep_store.specs.Ordering.{told_label, front_text, IsListText, IsPairText, AreTexts, IsGiven, IsCutOff};
+ghost use Rattle.prep_store.specs.Writing.{IsStoreOf};
 
 use crate::item::Item;
 use crate::listed::Listed;
@@ -28,12 +27,15 @@ fn front(alloc: Global, ground: &Ground, prep: &Prep) -> Result<Vec<u8>, NoMemor
     ensures { IfOk result (λ bytes. bytes.items ≡ front_text ground.now prep.now) }
 {
     let graph = ground.graph();
+    let head = [
+        prep.profile(),
+        graph.node_count(),
+        graph.edge_count(),
+        prep.landmark_count(),
+    ];
     let mut bytes = Vec::new(alloc);
     bytes.extend_from_slice(MAGIC)?;
-    put_u32(&mut bytes, prep.profile())?;
-    put_u32(&mut bytes, graph.node_count())?;
-    put_u32(&mut bytes, graph.edge_count())?;
-    put_u32(&mut bytes, prep.landmark_count())?;
+    put_words(&mut bytes, &head)?;
     put_words(&mut bytes, prep.snapshot().as_slice())?;
     put_nodes(&mut bytes, prep.landmarks().as_slice())?;
     put_u64(&mut bytes, prep.grain())?;
@@ -67,12 +69,8 @@ fn give_side<K: Sink, V: FreshView + Drop>(
     requires labels { nodes_of told.now.prep.now.labels ≡ (V.network view.now).nodes }
     requires fine { 1 ≤ told.now.prep.now.grain }
     requires coarse { told.now.prep.now.grain ≤ 2 ^ 46 }
-    ensures ok { OnOk result ((items : List Item)
-        × IsListing (V.network view.now) told.now.prep.now.grain landmark.0 (told_label told.now.prep.now told.now.landmark told.now.back) items
-        × Appends (K.held sink.old) (K.held sink.new) (list_text items)) }
-    ensures err { OnErr result ((items : List Item)
-        → IsListing (V.network view.now) told.now.prep.now.grain landmark.0 (told_label told.now.prep.now told.now.landmark told.now.back) items
-        → AppendsFront (K.held sink.old) (K.held sink.new) (list_text items)) }
+    ensures ok { OnOk result (IsGiven (IsListText (V.network view.now) told.now.prep.now.grain landmark.0 (told_label told.now.prep.now told.now.landmark told.now.back)) (K.held sink.old) (K.held sink.new)) }
+    ensures err { OnErr result (IsCutOff (IsListText (V.network view.now) told.now.prep.now.grain landmark.0 (told_label told.now.prep.now told.now.landmark told.now.back)) (K.held sink.old) (K.held sink.new)) }
     ensures fault { IsErrOf result GiveFault.WriteFault → Rose (K.faults sink.old) (K.faults sink.new) }
     ensures later { K.faults sink.old ≤ K.faults sink.new }
 {
@@ -95,24 +93,20 @@ fn give_pair<K: Sink, V: FreshView + Drop, W: FreshView + Drop>(
     back: &W,
     prep: &Prep,
     place: u32,
+    landmark: NodeId,
     sink: &mut K,
 ) -> Result<(), GiveFault>
     requires place { place < length prep.now.landmarks }
-    requires nodes { (node : ℕ) → slice_get prep.now.landmarks place ≡ Some node → node < (V.network out.now).nodes }
+    requires node { landmark.0 < (V.network out.now).nodes }
     requires back { (W.network back.now).nodes ≡ (V.network out.now).nodes }
     requires labels { nodes_of prep.now.labels ≡ (V.network out.now).nodes }
     requires fine { 1 ≤ prep.now.grain }
     requires coarse { prep.now.grain ≤ 2 ^ 46 }
-    ensures ok { OnOk result ((lists : Lists) × ((node : ℕ) → slice_get prep.now.landmarks place ≡ Some node →
-        AreListings (V.network out.now) (W.network back.now) prep.now.grain node (labels_at prep.now.labels place) lists)
-        × Appends (K.held sink.old) (K.held sink.new) (pair_text lists)) }
-    ensures err { OnErr result ((node : ℕ) (lists : Lists) → slice_get prep.now.landmarks place ≡ Some node →
-        AreListings (V.network out.now) (W.network back.now) prep.now.grain node (labels_at prep.now.labels place) lists →
-        AppendsFront (K.held sink.old) (K.held sink.new) (pair_text lists)) }
+    ensures ok { OnOk result (IsGiven (IsPairText (V.network out.now) (W.network back.now) prep.now.grain landmark.0 (labels_at prep.now.labels place)) (K.held sink.old) (K.held sink.new)) }
+    ensures err { OnErr result (IsCutOff (IsPairText (V.network out.now) (W.network back.now) prep.now.grain landmark.0 (labels_at prep.now.labels place)) (K.held sink.old) (K.held sink.new)) }
     ensures fault { IsErrOf result GiveFault.WriteFault → Rose (K.faults sink.old) (K.faults sink.new) }
     ensures later { K.faults sink.old ≤ K.faults sink.new }
 {
-    let landmark = landmark_at(prep, place);
     let from = Told {
         prep,
         landmark: place,
@@ -141,19 +135,38 @@ fn give_lists<K: Sink, V: FreshView + Drop, W: FreshView + Drop>(
     requires labels { nodes_of prep.now.labels ≡ (V.network out.now).nodes }
     requires fine { 1 ≤ prep.now.grain }
     requires coarse { prep.now.grain ≤ 2 ^ 46 }
-    ensures ok { OnOk result ((lists : List Lists)
-        × AreAllListings (V.network out.now) (W.network back.now) prep.now.grain prep.now.landmarks prep.now.labels lists
-        × Appends (K.held sink.old) (K.held sink.new) (lists_text lists)) }
-    ensures err { OnErr result ((lists : List Lists)
-        → AreAllListings (V.network out.now) (W.network back.now) prep.now.grain prep.now.landmarks prep.now.labels lists
-        → AppendsFront (K.held sink.old) (K.held sink.new) (lists_text lists)) }
+    ensures ok { OnOk result (IsGiven (AreTexts (V.network out.now) (W.network back.now) prep.now.grain prep.now.landmarks prep.now.labels) (K.held sink.old) (K.held sink.new)) }
+    ensures err { OnErr result (IsCutOff (AreTexts (V.network out.now) (W.network back.now) prep.now.grain prep.now.landmarks prep.now.labels) (K.held sink.old) (K.held sink.new)) }
     ensures fault { IsErrOf result GiveFault.WriteFault → Rose (K.faults sink.old) (K.faults sink.new) }
     ensures later { K.faults sink.old ≤ K.faults sink.new }
 {
     'places: for place in 0..prep.landmark_count() {
-        give_pair(alloc, out, back, prep, place, sink)?;
+        let landmark = landmark_at(prep, place);
+        give_pair(alloc, out, back, prep, place, landmark, sink)?;
     }
     Ok(())
+}
+
+/// Gives the lists of a preparation that is true over the ground.
+fn give_roads<K: Sink>(
+    alloc: Global,
+    ground: &Ground,
+    prep: &Prep,
+    sink: &mut K,
+) -> Result<(), GiveFault>
+    requires { IsTrueOver ground.now prep.now }
+    ensures ok { OnOk result (IsGiven (AreTexts (roads_at ground.now prep.now.profile prep.now.snapshot) (back_at ground.now prep.now.profile prep.now.snapshot) prep.now.grain prep.now.landmarks prep.now.labels) (K.held sink.old) (K.held sink.new)) }
+    ensures err { OnErr result (IsCutOff (AreTexts (roads_at ground.now prep.now.profile prep.now.snapshot) (back_at ground.now prep.now.profile prep.now.snapshot) prep.now.grain prep.now.landmarks prep.now.labels) (K.held sink.old) (K.held sink.new)) }
+    ensures fault { IsErrOf result GiveFault.WriteFault → Rose (K.faults sink.old) (K.faults sink.new) }
+    ensures later { K.faults sink.old ≤ K.faults sink.new }
+{
+    let graph = ground.graph();
+    let weighting = Weighting::new(ground.profile(prep.profile()), None);
+    let listed = Listed::new(graph, prep.snapshot());
+    let out = WeightView::new(graph, &listed, &weighting, Side::Out);
+    let back = WeightView::new(graph, &listed, &weighting, Side::Back);
+    preparations_are_one();
+    give_lists(alloc, &out, &back, prep, sink)
 }
 
 /// Gives the store of a preparation that is true over the ground to a sink: what stands before the lists in one piece,
@@ -173,13 +186,7 @@ pub fn write_prep<K: Sink>(
     ensures fault { IsErrOf result GiveFault.WriteFault → Rose (K.faults sink.old) (K.faults sink.new) }
     ensures later { K.faults sink.old ≤ K.faults sink.new }
 {
-    let graph = ground.graph();
-    let weighting = Weighting::new(ground.profile(prep.profile()), None);
-    let listed = Listed::new(graph, prep.snapshot());
-    let out = WeightView::new(graph, &listed, &weighting, Side::Out);
-    let back = WeightView::new(graph, &listed, &weighting, Side::Back);
-    preparations_are_one();
     let bytes = front(alloc, ground, prep)?;
     give_all(sink, &bytes)?;
-    give_lists(alloc, &out, &back, prep, sink)
+    give_roads(alloc, ground, prep, sink)
 }

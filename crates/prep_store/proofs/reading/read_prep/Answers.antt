@@ -1,61 +1,65 @@
-use Rattle.std.proofs.Common.{◌≡◌, ◌+◌, ◌*◌, ◌≤◌, ℕ, length, inl, sym, subst, ap, ◌∙◌, arith}
+use Rattle.std.proofs.Common.{◌≡◌, ◌*◌, ℕ, length, refl, inr, inl, sym, subst, ap, ◌∙◌, arith}
 use Rattle.std.specs.Prelude.{IfSome}
 use Rattle.base_graph.specs.Graphs.{Graph, IsGraph}
 use Rattle.landmark_prep.specs.Preparations.{Preparation}
 use Rattle.traffic_core.specs.Truth.{IsTrueOver}
 use Rattle.prep_store.specs.Stores.{IsStored, roads_at, back_at}
-use Rattle.prep_store.specs.FirstFaults.{IsCut, FailsInHead, IsFirstFault}
-use Rattle.prep_store.specs.Readings.{Tells}
-use Rattle.prep_store.proofs.Telling.{handed_on, tell_as}
-use Rattle.prep_store.proofs.Wholes.{limits_fail, parts_fail, end_fails, stored_all, stored_whole, are_parts}
+use Rattle.prep_store.specs.FirstFaults.{IsCut}
+use Rattle.prep_store.specs.Readings.{place}
+use Rattle.prep_store.proofs.Telling.{fails_behind}
+use Rattle.prep_store.proofs.Wholes.{IsFirstOf, AreTaken, first_fault, head_fails, parts_fail, end_fails, stored_all, stored_whole, are_parts}
+use Rattle.prep_store.proofs.Faulting.{length-words}
 use Rattle.prep_store.proofs.Shown.{stored_true}
 use Rattle.prep_store.proofs.reading.read_prep.Goals as goal
 
 pub returns-in_err-head-clause-first : goal.returns-in_err-head-clause-first
-returns-in_err-head-clause-first g c =
-    let land = c.args.ground.now in
-    let old = g.S.Source.left c.args.source.now in
-    let fault = c.in_err-head.field-0.0 in
-    handed_on (Tells old (λ bytes fault. IsFirstFault land bytes fault)) c.from_residual.result fault c.from_residual.ensures.1
-    (tell_as (λ rest fault. FailsInHead land (0 + length rest) rest fault) (λ bytes fault. IsFirstFault land bytes fault) old c.in_err-head.ensures.fails
-    (λ rest f. let e : 0 + length rest ≡ length rest = omega arith in inl (subst (λ (n : ℕ). FailsInHead land n rest fault) e f)))
+returns-in_err-head-clause-first g c = first_fault c.args.ground.now c.from_residual.result c.from_residual.ensures.1 refl (head_fails c.args.ground.now c.in_err-head.ensures.fails)
 
 pub returns-in_err-snapshot-clause-first : goal.returns-in_err-snapshot-clause-first
 returns-in_err-snapshot-clause-first g c =
     let land = c.args.ground.now in
-    let old = g.S.Source.left c.args.source.now in
     let head = c.in_ok-head.ensures in
+    let profile = c.in_ok-head.head.profile in
+    let count = c.in_ok-head.head.count in
     let fault = c.in_err-snapshot.field-0.0 in
     let edges : c.edge_count.result ≡ length land.graph.edges = c.edge_count.ensures ∙ ap (λ (gr : Graph). length gr.edges) c.graph.ensures in
-    handed_on (Tells old (λ bytes fault. IsFirstFault land bytes fault)) c.from_residual-in_err-snapshot.result fault c.from_residual-in_err-snapshot.ensures.1
-    (limits_fail land old (g.S.Source.left c.read_head.new.source) c.in_ok-head.head.profile c.in_ok-head.head.count c.read_head.new.at head.text (omega (arith, head.counted)) head.there head.word head.some head.few fault
-    (subst (λ (n : ℕ). Tells (g.S.Source.left c.read_head.new.source) (λ rest fault. IsCut (8 * n) (c.read_head.new.at + length rest) rest fault) fault) edges c.in_err-snapshot.ensures.cut))
+    first_fault land c.from_residual-in_err-snapshot.result c.from_residual-in_err-snapshot.ensures.1 refl
+    (fails_behind {Outer = IsFirstOf land} head.text c.in_err-snapshot.ensures.fails (λ total bytes rest e f same.
+    inr (inl (profile, count, rest, record { bytes_are = e; there = head.there; word = head.word; some = head.some; few = head.few },
+    subst (λ (n : ℕ). IsCut (8 * n) (length bytes) rest fault) edges (subst (λ (n : ℕ). IsCut (8 * c.edge_count.result) n rest fault) same f)))))
+
+pub read_parts-requires-clause-small : goal.read_parts-requires-clause-small
+read_parts-requires-clause-small g c =
+    let limits = c.in_ok-snapshot in
+    omega (arith, c.in_ok-head.ensures.text.counted, limits.ensures.text.counted, length-words limits.snapshot, limits.ensures.long)
 
 pub returns-in_err-placing-clause-first : goal.returns-in_err-placing-clause-first
 returns-in_err-placing-clause-first g c =
     let land = c.args.ground.now in
-    let old = g.S.Source.left c.args.source.now in
-    let head = c.in_ok-head.ensures in
-    let limits = c.in_ok-snapshot.ensures in
-    let fault = c.in_err-placing.field-0.0 in
+    let seen = place g.S.Source.left g.S.Source.faults g.S.Source.mark in
+    let head = c.in_ok-head in
+    let limits = c.in_ok-snapshot in
     let edges : c.edge_count.result ≡ length land.graph.edges = c.edge_count.ensures ∙ ap (λ (gr : Graph). length gr.edges) c.graph.ensures in
-    handed_on (Tells old (λ bytes fault. IsFirstFault land bytes fault)) c.from_residual-in_err-placing.result fault c.from_residual-in_err-placing.ensures.1
-    (parts_fail land old (g.S.Source.left c.read_head.new.source) c.in_ok-head.head.profile c.in_ok-head.head.count c.read_head.new.at head.text (omega (arith, head.counted)) head.there head.word head.some head.few
-    (g.S.Source.left c.read_limits.new.source) c.in_ok-snapshot.snapshot c.read_limits.new.at limits.text (omega (arith, limits.counted, edges)) (omega (arith, limits.long, edges)) limits.each fault c.in_err-placing.ensures.fails)
+    let front : AreTaken land (seen c.args.source.now 0) (seen c.read_head.new.source c.read_head.new.at) (seen c.read_limits.new.source c.read_limits.new.at) head.head.profile head.head.count limits.snapshot = record {
+      head = head.ensures.text; there = head.ensures.there; word = head.ensures.word; some = head.ensures.some; few = head.ensures.few;
+      limits = limits.ensures.text; long = limits.ensures.long ∙ ap (λ (n : ℕ). 2 * n) edges; each = limits.ensures.each;
+    } in
+    first_fault land c.from_residual-in_err-placing.result c.from_residual-in_err-placing.ensures.1 refl (parts_fail front c.in_err-placing.ensures.fails)
 
 pub returns-in_err-read_end-clause-first : goal.returns-in_err-read_end-clause-first
 returns-in_err-read_end-clause-first g c =
     let land = c.args.ground.now in
-    let old = g.S.Source.left c.args.source.now in
-    let head = c.in_ok-head.ensures in
-    let limits = c.in_ok-snapshot.ensures in
-    let read = c.in_ok-placing.ensures.read in
-    let fault = c.in_err-read_end.field-0.0 in
+    let seen = place g.S.Source.left g.S.Source.faults g.S.Source.mark in
+    let head = c.in_ok-head in
+    let limits = c.in_ok-snapshot in
     let edges : c.edge_count.result ≡ length land.graph.edges = c.edge_count.ensures ∙ ap (λ (gr : Graph). length gr.edges) c.graph.ensures in
-    handed_on (Tells old (λ bytes fault. IsFirstFault land bytes fault)) c.from_residual-in_err-read_end.result fault c.from_residual-in_err-read_end.ensures.1
-    (end_fails land old (g.S.Source.left c.read_head.new.source) c.in_ok-head.head.profile c.in_ok-head.head.count c.read_head.new.at head.text (omega (arith, head.counted)) head.there head.word head.some head.few
-    (g.S.Source.left c.read_limits.new.source) c.in_ok-snapshot.snapshot c.read_limits.new.at limits.text (omega (arith, limits.counted, edges)) (omega (arith, limits.long, edges)) limits.each
-    (g.S.Source.left c.read_parts.new.source) _ _ read.0 _ read.1 read.2 fault c.in_err-read_end.ensures.fails)
+    let front : AreTaken land (seen c.args.source.now 0) (seen c.read_head.new.source c.read_head.new.at) (seen c.read_limits.new.source c.read_limits.new.at) head.head.profile head.head.count limits.snapshot = record {
+      head = head.ensures.text; there = head.ensures.there; word = head.ensures.word; some = head.ensures.some; few = head.ensures.few;
+      limits = limits.ensures.text; long = limits.ensures.long ∙ ap (λ (n : ℕ). 2 * n) edges; each = limits.ensures.each;
+    } in
+    let read = c.in_ok-placing.ensures.read in
+    first_fault land c.from_residual-in_err-read_end.result c.from_residual-in_err-read_end.ensures.1 refl
+    (end_fails land _ _ _ _ head.head.profile head.head.count limits.snapshot front _ c.in_ok-placing.field-0.placing.grain read.0 c.in_ok-placing.field-0.labels read.1 read.2 (c.in_err-read_end.ensures.fails c.read_parts.new.at))
 
 pub of_parts-requires : goal.of_parts-requires
 of_parts-requires g c =
@@ -70,27 +74,30 @@ of_parts-requires g c =
 pub returns-clause-stored : goal.returns-clause-stored
 returns-clause-stored g c =
     let land = c.args.ground.now in
-    let old = g.S.Source.left c.args.source.now in
-    let head = c.in_ok-head.ensures in
-    let limits = c.in_ok-snapshot.ensures in
-    let read = c.in_ok-placing.ensures.read in
+    let seen = place g.S.Source.left g.S.Source.faults g.S.Source.mark in
+    let head = c.in_ok-head in
+    let limits = c.in_ok-snapshot in
     let edges : c.edge_count.result ≡ length land.graph.edges = c.edge_count.ensures ∙ ap (λ (gr : Graph). length gr.edges) c.graph.ensures in
-    subst (λ (p : Preparation). IfSome old (IsStored land p)) (sym c.of_parts.ensures)
-    (stored_all land old (g.S.Source.left c.read_head.new.source) c.in_ok-head.head.profile c.in_ok-head.head.count c.read_head.new.at head.text (omega (arith, head.counted)) head.there head.word head.some head.few
-    (g.S.Source.left c.read_limits.new.source) c.in_ok-snapshot.snapshot c.read_limits.new.at limits.text (omega (arith, limits.counted, edges)) (omega (arith, limits.long, edges)) limits.each
-    (g.S.Source.left c.read_parts.new.source) _ _ read.0 _ read.1 read.2
-    (g.S.Source.left c.read_end.new.source) c.in_ok-read_end.ensures.nothing c.in_ok-read_end.ensures.end)
+    let front : AreTaken land (seen c.args.source.now 0) (seen c.read_head.new.source c.read_head.new.at) (seen c.read_limits.new.source c.read_limits.new.at) head.head.profile head.head.count limits.snapshot = record {
+      head = head.ensures.text; there = head.ensures.there; word = head.ensures.word; some = head.ensures.some; few = head.ensures.few;
+      limits = limits.ensures.text; long = limits.ensures.long ∙ ap (λ (n : ℕ). 2 * n) edges; each = limits.ensures.each;
+    } in
+    let read = c.in_ok-placing.ensures.read in
+    subst (λ (p : Preparation). IfSome (g.S.Source.left c.args.source.now) (IsStored land p)) (sym c.of_parts.ensures)
+    (stored_all land _ _ _ _ head.head.profile head.head.count limits.snapshot front _ c.in_ok-placing.field-0.placing.grain read.0 c.in_ok-placing.field-0.labels read.1 read.2 (c.in_ok-read_end.ensures.taken c.read_parts.new.at) c.in_ok-read_end.ensures.end)
 
 pub returns-clause-true_over : goal.returns-clause-true_over
 returns-clause-true_over g c =
     let land = c.args.ground.now in
-    let old = g.S.Source.left c.args.source.now in
-    let head = c.in_ok-head.ensures in
-    let limits = c.in_ok-snapshot.ensures in
-    let read = c.in_ok-placing.ensures.read in
+    let seen = place g.S.Source.left g.S.Source.faults g.S.Source.mark in
+    let head = c.in_ok-head in
+    let limits = c.in_ok-snapshot in
     let edges : c.edge_count.result ≡ length land.graph.edges = c.edge_count.ensures ∙ ap (λ (gr : Graph). length gr.edges) c.graph.ensures in
+    let front : AreTaken land (seen c.args.source.now 0) (seen c.read_head.new.source c.read_head.new.at) (seen c.read_limits.new.source c.read_limits.new.at) head.head.profile head.head.count limits.snapshot = record {
+      head = head.ensures.text; there = head.ensures.there; word = head.ensures.word; some = head.ensures.some; few = head.ensures.few;
+      limits = limits.ensures.text; long = limits.ensures.long ∙ ap (λ (n : ℕ). 2 * n) edges; each = limits.ensures.each;
+    } in
+    let read = c.in_ok-placing.ensures.read in
     let graph : IsGraph land.graph = subst (λ (gr : Graph). IsGraph gr) c.graph.ensures c.graph.result.now.facts in
     subst (λ (p : Preparation). IsTrueOver land p) (sym c.of_parts.ensures)
-    (stored_true land _ _ graph (stored_whole land old (g.S.Source.left c.read_head.new.source) c.in_ok-head.head.profile c.in_ok-head.head.count c.read_head.new.at head.text (omega (arith, head.counted)) head.there head.word head.some head.few
-    (g.S.Source.left c.read_limits.new.source) c.in_ok-snapshot.snapshot c.read_limits.new.at limits.text (omega (arith, limits.counted, edges)) (omega (arith, limits.long, edges)) limits.each
-    (g.S.Source.left c.read_parts.new.source) _ _ read.0 _ read.1 read.2))
+    (stored_true land _ _ graph (stored_whole land _ _ _ _ head.head.profile head.head.count limits.snapshot front _ c.in_ok-placing.field-0.placing.grain read.0 c.in_ok-placing.field-0.labels read.1 read.2))

@@ -1,6 +1,7 @@
 use Rattle.std.proofs.Common.{rules, ◌-◌, length, subst, sym, ◌∙◌, List, ℕ, arith}
 use Rattle.std.specs.Io.KnownBytes.{Consumes}
-use Rattle.prep_store.proofs.Bytes.{consumed_more, written_behind, part_kept}
+use Rattle.prep_store.proofs.Bytes.{written_behind, part_kept}
+use Rattle.prep_store.proofs.Telling.{consumed_more}
 use Rattle.prep_store.proofs.units.fill.Goals as goal
 
 pub pieces-preserved : goal.pieces-preserved
