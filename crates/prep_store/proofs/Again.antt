@@ -36,28 +36,23 @@ module _ (network back : Network) (grain : ℕ) (fine : 1 ≤ grain) (turned : A
     to = record { long = a.to_each; each = listing_each back grain landmark (label_at labels.to) lists.to fine (labels_back landmark labels a) l.to };
   }
 
-  all_evidence : (landmarks : List ℕ) (table : List Labels) (lists : List Lists) → AllZip (AreLabelsOf network grain) landmarks table → AreAllListings network back grain landmarks table lists → AllZip (AreEvidence network back grain) landmarks lists
-  all_evidence [] [] [] a l = tt
-  all_evidence [] [] (x ∷ lists) a l = absurd l
-  all_evidence [] (t ∷ table) lists a l = absurd a
-  all_evidence (n ∷ landmarks) [] lists a l = absurd a
-  all_evidence (n ∷ landmarks) (t ∷ table) [] a l = absurd l
-  all_evidence (n ∷ landmarks) (t ∷ table) (x ∷ lists) a l = (listings_evidence n t x a.0 l.0, all_evidence landmarks table lists a.1 l.1)
-
-  all_labels : (landmarks : List ℕ) (table : List Labels) (lists : List Lists) → AllZip (AreLabelsOf network grain) landmarks table → AreAllListings network back grain landmarks table lists → AllZip (AreOfLists network.nodes grain) lists table
-  all_labels [] [] [] a l = tt
-  all_labels [] [] (x ∷ lists) a l = absurd l
-  all_labels [] (t ∷ table) lists a l = absurd a
-  all_labels (n ∷ landmarks) [] lists a l = absurd a
-  all_labels (n ∷ landmarks) (t ∷ table) [] a l = absurd l
-  all_labels (n ∷ landmarks) (t ∷ table) (x ∷ lists) a l = (listings_labels n t x a.0 l.0, all_labels landmarks table lists a.1 l.1)
+  all_shown : (landmarks : List ℕ) (table : List Labels) (lists : List Lists) → AllZip (AreLabelsOf network grain) landmarks table → AreAllListings network back grain landmarks table lists →
+      AllZip (AreEvidence network back grain) landmarks lists × AllZip (AreOfLists network.nodes grain) lists table
+  all_shown [] [] [] a l = (tt, tt)
+  all_shown [] [] (x ∷ lists) a l = absurd l
+  all_shown [] (t ∷ table) lists a l = absurd a
+  all_shown (n ∷ landmarks) [] lists a l = absurd a
+  all_shown (n ∷ landmarks) (t ∷ table) [] a l = absurd l
+  all_shown (n ∷ landmarks) (t ∷ table) (x ∷ lists) a l =
+      let rest = all_shown landmarks table lists a.1 l.1 in ((listings_evidence n t x a.0 l.0, rest.0), (listings_labels n t x a.0 l.0, rest.1))
 
 pub stored_again : (land : Land) (prep : Preparation) (text : List ℕ) → IsGraph land.graph → FitsBytes prep → IsTrueOver land prep → IsStoreOf land prep text → IsStored land prep text
 stored_again land prep text graph fits is_true store =
     let network = roads_at land prep.profile prep.snapshot in
     let back = back_at land prep.profile prep.snapshot in
     let turned : AreTurned network back = sides_are_turned (rule_alone (profile_at land.profiles prep.profile)) (limit_in prep.snapshot) land.graph graph in
-    let fine : 1 ≤ prep.grain = omega (arith, is_true.is_prep.placing.grain_is) in (
+    let fine : 1 ≤ prep.grain = omega (arith, is_true.is_prep.placing.grain_is) in
+    let shown = all_shown network back prep.grain fine turned prep.landmarks prep.labels store.lists is_true.is_prep.labels_are store.listings in (
       store.lists,
       record {
         landmarks = record {
@@ -74,7 +69,7 @@ stored_again land prep text graph fits is_true store =
           };
           placing = is_true.is_prep.placing;
         };
-        evidence = all_evidence network back prep.grain fine turned prep.landmarks prep.labels store.lists is_true.is_prep.labels_are store.listings;
-        labels = all_labels network back prep.grain fine turned prep.landmarks prep.labels store.lists is_true.is_prep.labels_are store.listings;
+        evidence = shown.0;
+        labels = shown.1;
       },
     )

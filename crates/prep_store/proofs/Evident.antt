@@ -12,6 +12,7 @@ use Rattle.walk_rules.specs.Potentials.{IsWithin, RisesAlong}
 use Rattle.walk_rules.specs.Distances.{in_grains, rounded, rounded_hop, IsLabel, AreLabelsFrom}
 use Rattle.walk_rules.specs.Evidence.{is_violated}
 use Rattle.walk_rules.proofs.Walking.{walk_push, rises_along_walk}
+use Rattle.walk_rules.proofs.Single.{one_label}
 use Rattle.walk_rules.proofs.Options.{some_or_none}
 use Rattle.label_spread.specs.Cutting.{Contains-map_from}
 use Rattle.landmark_prep.specs.Packing.{in_ms}
@@ -19,7 +20,7 @@ use Rattle.landmark_prep.proofs.Graining.{Contains-map, whole_grains}
 use Rattle.prep_store.specs.declared.item.Item.{Item}
 use Rattle.prep_store.specs.Evidence.{label_in, label_after, MayAllFollow, IsClosedAt, IsEvidence}
 use Rattle.prep_store.specs.Writing.{IsCandidate, AreNext, IsListing}
-use Rattle.prep_store.proofs.Attained.{scaled_min}
+use Rattle.prep_store.proofs.Attained.{scaled_min, evidence_tells}
 use Rattle.prep_store.proofs.Candidates.{same_factor}
 use Rattle.prep_store.proofs.Lookups.{label_here, label_past, label_push_cases, same_or_not, no_some}
 
@@ -185,14 +186,6 @@ module _ (network : Network) (grain landmark : ℕ) (labels : ℕ → Option ℕ
       let products : grain * found.0 ≡ up.0 = cc in
       (found.0, found.1, less_factor grain found.0 (label + quotient) fine (omega (arith, products, up.2, costs)))
 
-  -- whatever a walk from a listed node leads to is listed
-  walked_listed : (hops : List Hop) (node label end : ℕ) → IsWalk roads node hops end → label_in items node ≡ Some label → (l : ℕ) × (label_in items end ≡ Some l)
-  walked_listed [] node label end walk at = (label, subst (λ (n : ℕ). label_in items n ≡ Some label) walk at)
-  walked_listed (hop ∷ hops) node label end walk at =
-      let b = base_of node hop walk.0 walk.1 in
-      let h = head_listed node label b.1 b.0 at b.2 b.3 in
-      walked_listed hops hop.to.0 h.0 end walk.2 (subst (λ (n : ℕ). label_in items n ≡ Some h.0) b.4 h.1)
-
   closed_at : (item : Item) → Contains items item → IsClosedAt network grain items item.node.0
   closed_at item c hop leaves =
       let at = contained_label items item c in
@@ -205,17 +198,9 @@ module _ (network : Network) (grain landmark : ℕ) (labels : ℕ → Option ℕ
     closed = closed_at;
   }
 
+  -- there is one label of each node, which evidence tells
   pub first_each : (node : ℕ) → labels node ≡ in_ms grain (label_in items node)
-  first_each node = elim (some_or_none (label_in items node)) [
-    | inl l ↦ told node l.0 l.1 ∙ sym (ap (in_ms grain) l.1)
-    | inr n ↦ elim (some_or_none (labels node)) [
-      | inr none ↦ none ∙ sym (ap (in_ms grain) n)
-      | inl y ↦
-          let near = subst (λ (o : Option ℕ). IsLabel roads (65534 * grain) landmark node o) y.1 (are node) in
-          let l = walked_listed near.hops landmark 0 node near.walk first_listed in
-          absurd (no_some (sym n ∙ l.1))
-    ]
-  ]
+  first_each node = one_label roads (65534 * grain) landmark node (labels node) _ (are node) (evidence_tells network grain landmark items (λ n. in_ms grain (label_in items n)) first_evidence (λ n. refl) node)
 
 -- so the listing is evidence, and tells the labels
 pub listing_evidence : (network : Network) (grain landmark : ℕ) (labels : ℕ → Option ℕ) (items : List Item) → 1 ≤ grain → AreLabelsFrom (in_grains grain network) (65534 * grain) landmark labels → IsListing network grain landmark labels items → IsEvidence network grain landmark items

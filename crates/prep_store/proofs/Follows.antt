@@ -1,37 +1,15 @@
 -- Which items may follow, by the hops of their nodes turned round.
 use Rattle.std.specs.Prelude.{◌==◌}
-use Rattle.std.specs.List.{list_any}
 use Rattle.std.proofs.Common.{◌≡◌, ℕ, ◌<◌, ◌≤◌, Bool, true, false, Option, Some, None, is_some, List, [], ◌∷◌, ◌++◌, Contains, suc, refl, sym, subst, ap, ◌∙◌, inl, inr, append_assoc, arith}
 use Rattle.std.proofs.lemmas.List.{append-nil}
-use Rattle.std.proofs.lemmas.Bool.{cases_Bool}
 use Rattle.std.proofs.lemmas.Bool.Decides.{nat_tests}
 use Rattle.gh_base.specs.declared.edges.Hop.{Hop}
 use Rattle.gh_base.specs.Networks.{Network, LeadsToNodes}
 use Rattle.walk_rules.specs.Walks.{hops_from, AreTurned}
-use Rattle.walk_rules.proofs.Options.{Contains-cons_cases}
 use Rattle.prep_store.specs.declared.item.Item.{Item}
 use Rattle.prep_store.specs.Evidence.{label_in, label_after, IsReached, MayFollow, MayAllFollow}
 use Rattle.prep_store.specs.Steps.{gives, gives_back}
 use Rattle.prep_store.proofs.Lookups.{no_some}
-
-any_of : {A : Type 0} (test : A → Bool) (xs : List A) → list_any test xs ≡ true → (x : A) × Contains xs x × (test x ≡ true)
-any_of test [] e = absurd (cc)
-any_of test (x ∷ xs) e = elim (cases_Bool (test x)) [
-  | inl t ↦ (x, (0, omega arith, refl), t)
-  | inr f ↦
-      let rest = any_of test xs (rw f at e) in
-      (rest.0, (suc rest.1.0, omega (arith, rest.1.1), rest.1.2), rest.2)
-]
-
-any_from : {A : Type 0} (test : A → Bool) (xs : List A) (x : A) → Contains xs x → test x ≡ true → list_any test xs ≡ true
-any_from test [] x c t = absurd (omega (arith, c.1))
-any_from test (y ∷ xs) x c t = elim (cases_Bool (test y)) [
-  | inl passes ↦ rw passes refl
-  | inr fails ↦ elim (Contains-cons_cases y xs x c) [
-    | inl same ↦ absurd (let bad : test x ≡ false = subst (λ z. test z ≡ false) same fails in cc)
-    | inr rest ↦ rw fails (any_from test xs x rest t)
-  ]
-]
 
 -- what a hop gives
 pub record Gives (grain : ℕ) (items : List Item) (label : ℕ) (hop : Hop) : Type 0 where
@@ -46,42 +24,30 @@ given_by grain items label hop None weight a b e = absurd (cc)
 given_by grain items label hop (Some tail) None a b e = absurd (cc)
 given_by grain items label hop (Some tail) (Some weight) a b e = record { tail = tail; tail_is = a; weight = weight; weighs = b; label_is = grind (arith, nat_tests) }
 
-pub any_gives : (grain : ℕ) (items : List Item) (label : ℕ) (hops : List Hop) → list_any (gives_back grain items label) hops ≡ true → (hop : Hop) × Contains hops hop × Gives grain items label hop
-any_gives grain items label hops e =
-    let found = any_of (gives_back grain items label) hops e in
-    (found.0, found.1, given_by grain items label found.0 (label_in items found.0.to.0) found.0.weight refl refl found.2)
+given : (grain : ℕ) (items : List Item) (label : ℕ) (hop : Hop) → gives_back grain items label hop ≡ true → Gives grain items label hop
+given grain items label hop e = given_by grain items label hop (label_in items hop.to.0) hop.weight refl refl e
 
 -- a label that is given isn't that which stands for none
-pub given_small : (grain : ℕ) (items : List Item) (label : ℕ) (hops : List Hop) → list_any (gives_back grain items label) hops ≡ true → label < 65535
-given_small grain items label hops e = let hop = any_gives grain items label hops e in omega (arith, hop.2.label_is)
+pub given_small : (grain : ℕ) (items : List Item) (label : ℕ) (hop : Hop) → gives_back grain items label hop ≡ true → label < 65535
+given_small grain items label hop e = let g = given grain items label hop e in omega (arith, g.label_is)
 
 module _ (network back : Network) (turned : AreTurned network back) (leads : LeadsToNodes network) (grain landmark : ℕ) (items : List Item) (item : Item) (some : items ≡ [] → ⊥) where
-  pub reached_back : list_any (gives_back grain items item.label) (hops_from back item.node.0) ≡ true → IsReached network grain items item
-  reached_back e =
-      let found = any_gives grain items item.label (hops_from back item.node.0) e in
-      let given = found.2 in
-      let other = turned.here item.node.0 found.0 found.1 (ap is_some given.weighs) in
-      record {
-        node = found.0.to.0;
-        label = given.tail;
-        label_is = given.tail_is;
-        hop = other.0;
-        leaves = other.1;
-        leads = other.2;
-        weight = given.weight;
-        weighs = other.3 ∙ given.weighs;
-        gives = given.label_is;
-      }
+  reached_back : (hop : Hop) → Contains (hops_from back item.node.0) hop → gives_back grain items item.label hop ≡ true → IsReached network grain items item
+  reached_back hop c e =
+      let g = given grain items item.label hop e in
+      let other = turned.here item.node.0 hop c (ap is_some g.weighs) in
+      record { node = hop.to.0; label = g.tail; label_is = g.tail_is; hop = other.0; leaves = other.1; leads = other.2; weight = g.weight; weighs = other.3 ∙ g.weighs; gives = g.label_is }
 
-  back_reached : IsReached network grain items item → list_any (gives_back grain items item.label) (hops_from back item.node.0) ≡ true
+  back_reached : IsReached network grain items item → (hop : Hop) × Contains (hops_from back item.node.0) hop × (gives_back grain items item.label hop ≡ true)
   back_reached r =
       let other = turned.there r.node r.hop r.leaves (ap is_some r.weighs) in
       let tail : label_in items other.0.to.0 ≡ Some r.label = ap (label_in items) other.2 ∙ r.label_is in
       let weighs : other.0.weight ≡ Some r.weight = other.3 ∙ r.weighs in
-      let same : (item.label == label_after grain r.label r.weight) ≡ true = let g = r.gives in grind (arith, nat_tests) in
-      let yes : gives_back grain items item.label other.0 ≡ true =
-      ap (λ (o : Option ℕ). gives grain o other.0.weight item.label) tail ∙ (ap (λ (o : Option ℕ). gives grain (Some r.label) o item.label) weighs ∙ same) in
-      any_from (gives_back grain items item.label) (hops_from back item.node.0) other.0 (subst (λ (n : ℕ). Contains (hops_from back n) other.0) r.leads other.1) yes
+      let same : (item.label == label_after grain r.label r.weight) ≡ true = let g = r.gives in grind (arith, nat_tests) in (
+        other.0,
+        subst (λ (n : ℕ). Contains (hops_from back n) other.0) r.leads other.1,
+        ap (λ (o : Option ℕ). gives grain o other.0.weight item.label) tail ∙ (ap (λ (o : Option ℕ). gives grain (Some r.label) o item.label) weighs ∙ same),
+      )
 
   -- behind other items: new, and reached
   into : (xs : List Item) → (xs ≡ [] → ⊥) → label_in xs item.node.0 ≡ None → IsReached network grain xs item → MayFollow network grain landmark xs item
@@ -98,10 +64,10 @@ module _ (network back : Network) (turned : AreTurned network back) (leads : Lea
   pub follows_not_listed : (label : ℕ) → label_in items item.node.0 ≡ Some label → MayFollow network grain landmark items item → ⊥
   follows_not_listed label listed f = no_some (sym (from items some f).0 ∙ listed)
 
-  pub follows_if : label_in items item.node.0 ≡ None → list_any (gives_back grain items item.label) (hops_from back item.node.0) ≡ true → MayFollow network grain landmark items item
-  follows_if new e = into items some new (reached_back e)
+  pub follows_if : label_in items item.node.0 ≡ None → (hop : Hop) × Contains (hops_from back item.node.0) hop × (gives_back grain items item.label hop ≡ true) → MayFollow network grain landmark items item
+  follows_if new h = into items some new (reached_back h.0 h.1 h.2)
 
-  pub follows_then : MayFollow network grain landmark items item → list_any (gives_back grain items item.label) (hops_from back item.node.0) ≡ true
+  pub follows_then : MayFollow network grain landmark items item → (hop : Hop) × Contains (hops_from back item.node.0) hop × (gives_back grain items item.label hop ≡ true)
   follows_then f = back_reached (from items some f).1
 
 -- one more item behind others

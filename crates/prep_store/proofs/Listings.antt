@@ -49,7 +49,7 @@ listing_one network grain landmark labels (x ∷ xs) (y ∷ ys) n m =
 abbrev pub IsOne : (List ℕ → Type 0) → Type 0
 IsOne IsSo = (a b : List ℕ) → IsSo a → IsSo b → a ≡ b
 
-same_one : (text : List ℕ) → IsOne (λ t. t ≡ text)
+pub same_one : (text : List ℕ) → IsOne (λ t. t ≡ text)
 same_one text a b x y = x ∙ sym y
 
 pub list_one : (network : Network) (grain landmark : ℕ) (labels : ℕ → Option ℕ) → IsOne (IsListText network grain landmark labels)

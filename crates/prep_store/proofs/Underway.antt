@@ -1,5 +1,6 @@
 -- A listing between two nodes, from the landmark to the last one.
-use Rattle.std.proofs.Common.{◌≡◌, ◌<◌, ◌≤◌, ◌+◌, ◌*◌, ◌/◌, ◌-◌, ℕ, Option, Some, None, List, [], ◌∷◌, ◌++◌, length, length-append, zero, suc, refl, sym, subst, ap, ◌∙◌, append_assoc, append-nil, arith}
+use Rattle.std.proofs.Common.{◌≡◌, ◌<◌, ◌≤◌, ◌+◌, ◌*◌, ◌/◌, ◌-◌, ℕ, Option, Some, None, List, [], ◌∷◌, ◌++◌, length, zero, suc, refl, sym, subst, ap, ◌∙◌, append_assoc, append-nil, arith}
+use Rattle.std.proofs.lemmas.List.{length_push}
 use Rattle.gh_base.specs.Networks.{Network, LeadsToNodes}
 use Rattle.gh_base.specs.declared.edges.NodeId.{NodeId}
 use Rattle.walk_rules.specs.Starts.{count_below}
@@ -10,24 +11,26 @@ use Rattle.prep_store.specs.Steps.{Listed}
 use Rattle.prep_store.specs.Writing.{IsNext, IsListing}
 use Rattle.prep_store.specs.Ordering.{is_new, IsOpen, IsUnderway}
 use Rattle.prep_store.proofs.Lookups.{no_some}
-use Rattle.prep_store.proofs.Candidates.{item_one, least_next, less_new}
+use Rattle.prep_store.proofs.Candidates.{item_one, candidate_fits, least_next, less_new}
 
 all_new : (nodes : ℕ) → count_below (is_new []) nodes ≡ nodes
 all_new zero = refl
 all_new (suc n) = omega (arith, all_new n)
 
--- what leaves the queue is the next item
-pub popped : (network : Network) (grain : ℕ) (labels : ℕ → Option ℕ) (listed : List Item) (keys : List (Option ℕ)) (item : Item) (node : NodeId) (key : ℕ) → LeadsToNodes network → network.nodes < 4294967296 →
-    IsOpen network grain labels listed keys → key_at keys node.0 ≡ Some key → ((other k : ℕ) → key_at keys other ≡ Some k → key ≤ k) → item.node ≡ node → item.label ≡ key / 4294967296 →
-    IsNext network grain labels listed item
-popped network grain labels listed keys item node key leads few o found least n l =
-    let q = o.each node.0 key found in
+-- what leaves the queue is the next item, which is one of the nodes and whose label isn't over the greatest
+pub popped : {network : Network} {grain landmark : ℕ} {labels : ℕ → Option ℕ} {starts : ℕ} {listing : Listed} {keys : List (Option ℕ)} → IsUnderway network grain landmark labels starts listing keys → LeadsToNodes network → (item : Item) (node : NodeId) (key : ℕ) →
+    key_at keys node.0 ≡ Some key → ((other k : ℕ) → key_at keys other ≡ Some k → key ≤ k) → item.node ≡ node → item.label ≡ key / 4294967296 → IsNext network grain labels listing.items item × (item.node.0 < network.nodes) × (item.label ≤ 65534)
+popped {network} {grain} {landmark} {labels} {starts} {listing} {keys} u leads item node key found least n l =
+    let q = u.keyed.each node.0 key found in
     let it = q.0 in
-    let within : it.node.0 < 4294967296 = omega (arith, leads q.1.reached.node q.1.reached.hop q.1.reached.leaves, q.1.reached.leads, few) in
-    let label : key / 4294967296 ≡ it.label = quotient key it.label it.node.0 q.3 within in
-    let same : it ≡ item = sym (item_one item it (ap (λ (k : NodeId). k.0) n ∙ sym q.2) (l ∙ label)) in
-    subst (IsNext network grain labels listed) same
-    (least_next network grain labels listed keys it leads few o q.1 (λ other k e. subst (λ (x : ℕ). x ≤ k) q.3 (least other k e)))
+    let fits = candidate_fits network grain labels listing.items it leads q.1 in
+    let label : key / 4294967296 ≡ it.label = quotient key it.label it.node.0 q.3 (omega (arith, fits.0, u.few)) in
+    let same : it ≡ item = sym (item_one item it (ap (λ (k : NodeId). k.0) n ∙ sym q.2) (l ∙ label)) in (
+      subst (IsNext network grain labels listing.items) same
+          (least_next network grain labels listing.items keys it leads u.few u.keyed q.1 (λ other k e. subst (λ (x : ℕ). x ≤ k) q.3 (least other k e))),
+      subst (λ (i : Item). i.node.0 < network.nodes) same fits.0,
+      subst (λ (i : Item). i.label ≤ 65534) same fits.1,
+    )
   where
     quotient : (k m r : ℕ) → k ≡ m * 4294967296 + r → r < 4294967296 → k / 4294967296 ≡ m
     quotient k m r e h = omega arith
@@ -46,31 +49,27 @@ underway_first network grain landmark labels keys starts first few within long o
 }
 
 -- one node more
-pub underway_more : (network : Network) (grain landmark : ℕ) (labels : ℕ → Option ℕ) (listing : Listed) (keys keys' : List (Option ℕ)) (starts starts' : ℕ) (item : Item) → IsUnderway network grain landmark labels starts listing keys →
+pub underway_more : {network : Network} {grain landmark : ℕ} {labels : ℕ → Option ℕ} {starts : ℕ} {listing : Listed} {keys : List (Option ℕ)} (keys' : List (Option ℕ)) (starts' : ℕ) {item : Item} → IsUnderway network grain landmark labels starts listing keys →
     IsNext network grain labels listing.items item → item.node.0 < network.nodes → length keys' ≡ network.nodes → starts' ≡ starts + 1 → IsOpen network grain labels (listing.items ++ item ∷ []) keys' →
     IsUnderway network grain landmark labels starts' (record { nodes = listing.nodes; items = listing.items ++ item ∷ [] }) keys'
-underway_more network grain landmark labels listing keys keys' starts starts' item u next within long once o =
-    let longer : length (listing.items ++ item ∷ []) ≡ length listing.items + 1 = length-append listing.items (item ∷ []) in
-    let less = less_new listing.items item network.nodes within next.candidate.new in
+underway_more {network} {grain} {landmark} {labels} {starts} {listing} {keys} keys' starts' {item} u next within long once o =
+    let longer = length_push listing.items item in
     record {
       few = u.few;
       nodes = u.nodes;
       long = long;
       starts_are = omega (arith, u.starts_are, once, longer);
-      counted = omega (arith, u.counted, longer, less);
+      counted = omega (arith, u.counted, longer, less_new listing.items item network.nodes within next.candidate.new);
       keyed = o;
       front = λ rest more. subst (IsListing network grain landmark labels) (sym (append_assoc listing.items (item ∷ []) rest)) (u.front (item ∷ rest) (next, more));
     }
 
 -- none is left
-pub underway_end : (network : Network) (grain landmark : ℕ) (labels : ℕ → Option ℕ) (listing : Listed) (keys : List (Option ℕ)) (starts : ℕ) → IsUnderway network grain landmark labels starts listing keys →
+pub underway_end : {network : Network} {grain landmark : ℕ} {labels : ℕ → Option ℕ} {starts : ℕ} {listing : Listed} {keys : List (Option ℕ)} → IsUnderway network grain landmark labels starts listing keys →
     ((node : ℕ) → key_at keys node ≡ None) → IsListing network grain landmark labels listing.items
-underway_end network grain landmark labels listing keys starts u none =
+underway_end {network} {grain} {landmark} {labels} {starts} {listing} u none =
     subst (IsListing network grain landmark labels) (append-nil listing.items) (u.front [] (λ item c. no_some (sym (none item.node.0) ∙ u.keyed.all item c)))
 
 -- fewer are left
-pub fewer_left : (nodes listed more : ℕ) → more ≡ listed + 1 → listed < nodes → nodes - more < nodes - listed
-fewer_left nodes listed more e h = omega arith
-
-pub room_left : (listed : List Item) (item : Item) (nodes : ℕ) → item.node.0 < nodes → label_in listed item.node.0 ≡ None → length listed + count_below (is_new listed) nodes ≡ nodes → length listed < nodes
-room_left listed item nodes within new counted = omega (arith, less_new listed item nodes within new, counted)
+pub fewer_left : (listed : List Item) (item : Item) (nodes : ℕ) → item.node.0 < nodes → label_in listed item.node.0 ≡ None → length listed + count_below (is_new listed) nodes ≡ nodes → nodes - length (listed ++ item ∷ []) < nodes - length listed
+fewer_left listed item nodes within new counted = omega (arith, less_new listed item nodes within new, counted, length_push listed item)

@@ -21,6 +21,7 @@ use Rattle.traffic_core.specs.History.{limit_in}
 use Rattle.prep_store.specs.Stores.{words, Lists, lists_text, head_text, roads_at, back_at}
 use Rattle.prep_store.specs.Writing.{store_text, IsStoreOf}
 use Rattle.prep_store.specs.Ordering.{front_text, IsBoth, AreTexts}
+use Rattle.prep_store.proofs.Tables.{zip_long}
 use Rattle.prep_store.proofs.Listings.{texts_of, lists_of}
 
 -- a landmark is one of the nodes: it has a label, that of the walk of no hop
@@ -39,18 +40,12 @@ all_at Holds (x ∷ landmarks) [] place node a e = absurd a
 all_at Holds (x ∷ landmarks) (l ∷ table) zero node a e = let same : x ≡ node = cc in subst (λ (n : ℕ). Holds n l) same a.0
 all_at Holds (x ∷ landmarks) (l ∷ table) (suc place) node a e = all_at Holds landmarks table place node a.1 e
 
-as_many : (Holds : ℕ → Labels → Type 0) (landmarks : List ℕ) (table : List Labels) → AllZip Holds landmarks table → length table ≡ length landmarks
-as_many Holds [] [] a = refl
-as_many Holds [] (l ∷ table) a = absurd a
-as_many Holds (x ∷ landmarks) [] a = absurd a
-as_many Holds (x ∷ landmarks) (l ∷ table) a = omega (arith, as_many Holds landmarks table a.1)
-
 module _ (network : Network) (prep : Preparation) (is : IsPrepOf network (length prep.landmarks) prep) where
   pub prep_nodes : (place node : ℕ) → slice_get prep.landmarks place ≡ Some node → node < network.nodes
   prep_nodes place node e = landmark_within network prep.grain node (labels_at prep.labels place) (all_at (AreLabelsOf network prep.grain) prep.landmarks prep.labels place node is.labels_are e)
 
   pub prep_table : length prep.labels ≡ length prep.landmarks
-  prep_table = as_many (AreLabelsOf network prep.grain) prep.landmarks prep.labels is.labels_are
+  prep_table = zip_long (AreLabelsOf network prep.grain) prep.landmarks prep.labels is.labels_are
 
 -- the text of a store is what stands before the lists, and the lists
 pub store_split : (land : Land) (prep : Preparation) (lists : List Lists) → store_text land prep lists ≡ front_text land prep ++ lists_text lists

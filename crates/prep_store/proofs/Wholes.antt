@@ -1,7 +1,6 @@
 -- What is read of a whole store, and the faults of its parts.
 use Rattle.std.specs.Prelude.{IfSome, IfErr, Result, Ok, Err, true}
 use Rattle.std.specs.Result.{IsErrAnd}
-use Rattle.std.specs.List.{AllZip}
 use Rattle.std.proofs.Common.{◌≡◌, ◌⊎◌, ℕ, ◌+◌, ◌*◌, ◌<◌, ◌≤◌, ◌^◌, All, Option, Some, None, List, [], ◌∷◌, ◌++◌, map, length, refl, sym, subst, ap, ◌∙◌, inl, inr, append_assoc, arith}
 use Rattle.std.proofs.lemmas.List.{length-map, append-nil}
 use Rattle.std.specs.Io.KnownBytes.{Consumes, IsAtEnd}
@@ -19,8 +18,8 @@ use Rattle.prep_store.specs.Stores.{words, head_text, Lists, roads_at, back_at, 
 use Rattle.prep_store.specs.FirstFaults.{is_of_bytes, IsCut, Behind, FailsInHead, FailsInGrain, FailsInLists, IsFirstFault}
 use Rattle.prep_store.specs.Readings.{Place, Takes, Fails}
 use Rattle.prep_store.specs.Steps.{IsBehindLimits, text_behind, FailsBehindLimits, IsLeft}
-use Rattle.prep_store.proofs.Telling.{taken_then, fails_as, fails_behind}
-use Rattle.prep_store.proofs.Tables.{numbers}
+use Rattle.prep_store.proofs.Telling.{consumed_more, taken_then, fails_as, fails_behind}
+use Rattle.prep_store.proofs.Tables.{numbers, zip_long}
 
 -- landmarks that are placed are nodes
 pub placed_within : (network : Network) (count : ℕ) (nodes : List NodeId) (grain : ℕ) → LeadsToNodes network → IsPlacing network count (numbers nodes) grain → All (λ landmark. landmark.0 < network.nodes) nodes
@@ -105,8 +104,8 @@ module _ (land : Land) (a b c d : Place) (profile count : ℕ) (snapshot : List 
   taken_whole : Takes a d whole
   taken_whole = taken_then (subst (λ (n : ℕ). Takes a b (head_text land profile n)) (sym read.all) t.head) (taken_then t.limits behind)
 
-  pub stored_all : {e : Place} → Takes d e [] → IsAtEnd e.left → IfSome a.left (IsStored land (record { profile = profile; snapshot = snapshot; landmarks = landmarks; grain = grain; labels = map (unpacked_labels grain) table }))
-  stored_all {e} nothing end = go a.left e.left (taken_then taken_whole nothing).bytes end
+  pub stored_all : (left : Option (List ℕ)) → Consumes d.left left [] → IsAtEnd left → IfSome a.left (IsStored land (record { profile = profile; snapshot = snapshot; landmarks = landmarks; grain = grain; labels = map (unpacked_labels grain) table }))
+  stored_all left nothing end = go a.left left (consumed_more a.left d.left left whole [] taken_whole.bytes nothing) end
     where
       go : (one two : Option (List ℕ)) → Consumes one two (whole ++ []) → IsAtEnd two → IfSome one (IsStored land prep)
       go None two h end = tt
@@ -117,12 +116,6 @@ module _ (land : Land) (a b c d : Place) (profile count : ℕ) (snapshot : List 
   end_fails failed = fails_behind taken_whole failed (λ total bytes rest e f same. inr (inr (inr (inr (inr (prep, whole, f.0, f.1, stored_whole, e ∙ ap (λ (r : List ℕ). whole ++ r) f.2, f.3))))))
 
 -- what was read can be a preparation
-zip_long : {A B : Type 0} (R : A → B → Type 0) (xs : List A) (ys : List B) → AllZip R xs ys → length ys ≡ length xs
-zip_long R [] [] z = refl
-zip_long R [] (y ∷ ys) z = absurd z
-zip_long R (x ∷ xs) [] z = absurd z
-zip_long R (x ∷ xs) (y ∷ ys) z = let rest = zip_long R xs ys z.1 in omega (arith, rest)
-
 table_nodes : (nodes : ℕ) (table : List PackedLabels) → 1 ≤ length table → All (AreLong nodes) table → packed_nodes table ≡ nodes
 table_nodes nodes [] some all = absurd (omega arith)
 table_nodes nodes (x ∷ table) some all = (all 0 x (omega arith)).from

@@ -1,5 +1,5 @@
 -- Private: what loops over hops compute, and how a list is kept.
-use Rattle.std.specs.Prelude.{◌≡◌, ◌⊎◌, ◌++◌, ℕ, ◌<◌, ◌==◌, nat_lt, if◌then◌else◌, Bool, true, false, Option, Some, None, unwrap_or, List, [], ◌∷◌, length, map, All, slice_index}
+use Rattle.std.specs.Prelude.{◌≡◌, ◌⊎◌, ◌++◌, ℕ, ◌<◌, ◌≤◌, ◌==◌, Bool, true, false, Option, Some, None, unwrap_or, List, ◌∷◌, length, map, All, Contains, slice_index}
 use Rattle.std.specs.List.{AllZip}
 use Rattle.gh_base.specs.declared.edges.DirEdge.{DirEdge}
 use Rattle.gh_base.specs.declared.edges.Hop.{Hop}
@@ -45,19 +45,16 @@ gives grain (Some tail) (Some weight) label = label == label_after grain tail we
 abbrev pub gives_back : ℕ → List Item → ℕ → Hop → Bool
 gives_back grain items label hop = gives grain (label_in items hop.to.0) hop.weight label
 
--- the lesser of two directed edges, of which there may be only the second
-abbrev pub lesser_edge : Option DirEdge → DirEdge → DirEdge
-lesser_edge None by = by
-lesser_edge (Some first) by = if nat_lt (index_of by) (index_of first) then by else first
+-- the hops of a node that are left, of which those before gave no label
+pub record IsStillSought (grain : ℕ) (items : List Item) (label : ℕ) (hops left : List Hop) : Type 0 where
+  pub rest : (hop : Hop) → Contains left hop → Contains hops hop
+  pub none : (hop : Hop) → Contains hops hop → gives_back grain items label hop ≡ true → Contains left hop
 
-abbrev pub with_hop : Bool → Option DirEdge → DirEdge → Option DirEdge
-with_hop true first by = Some (lesser_edge first by)
-with_hop false first by = first
-
--- the least directed edge of those so far and of the open hops that are left
-abbrev pub least_open : ℕ → List Item → ℕ → Option DirEdge → List Hop → Option DirEdge
-least_open grain items node first [] = first
-least_open grain items node first (hop ∷ hops) = least_open grain items node (with_hop (is_open grain items node hop) first hop.by) hops
+-- the least directed edge of the open hops of a node but for those that are left
+pub record IsLeastSoFar (grain : ℕ) (items : List Item) (node : ℕ) (hops left : List Hop) (first : Option DirEdge) : Type 0 where
+  pub rest : (hop : Hop) → Contains left hop → Contains hops hop
+  pub found : (edge : DirEdge) → first ≡ Some edge → (hop : Hop) × Contains hops hop × (is_open grain items node hop ≡ true) × (hop.by ≡ edge)
+  pub least : (hop : Hop) → Contains hops hop → is_open grain items node hop ≡ true → Contains left hop ⊎ ((edge : DirEdge) × (first ≡ Some edge) × (index_of edge ≤ index_of hop.by))
 
 -- bytes, as numbers
 abbrev pub IsEachByte : List ℕ → Type 0

@@ -1,11 +1,11 @@
 //! What is asked of the hops of a node.
-ghost use Rattle.std.specs.Prelude.{◌≡◌, ◌+◌, ◌<◌, ◌≤◌, ◌^◌, ℕ, true, Some, None};
-ghost use Rattle.std.specs.List.{list_any};
+ghost use Rattle.std.specs.Prelude.{◌≡◌, ◌⊎◌, ◌+◌, ◌<◌, ◌≤◌, ◌^◌, ℕ, true, Some, IsTrue, IfSome, IfNone, Contains};
+ghost use Rattle.gh_base.specs.declared.edges.Hop.{Hop};
 ghost use Rattle.walk_rules.specs.Walks.{hops_from};
 ghost use Rattle.traffic_core.specs.History.{index_of};
 ghost use Rattle.prep_store.specs.Evidence as spec;
-ghost use Rattle.prep_store.specs.Evidence.{label_in};
-ghost use Rattle.prep_store.specs.Steps.{gives, gives_back, least_open, with_hop};
+ghost use Rattle.prep_store.specs.Evidence.{label_in, IsClosedAt, IsFirstOpenAt};
+ghost use Rattle.prep_store.specs.Steps.{gives, gives_back};
 
 use crate::item::Item;
 use crate::listing::Listing;
@@ -41,7 +41,8 @@ pub(crate) fn is_reached<W: RoadView>(
     requires nodes { listing.now.nodes ≡ (W.network back.old).nodes }
     requires count { W.starts back.old ≤ 2 ^ 63 }
     requires fine { 1 ≤ grain }
-    ensures reached { result ≡ list_any (gives_back grain listing.now.items item.label) (hops_from (W.network back.old) item.node.0) }
+    ensures some { IsTrue result → (hop : Hop) × Contains (hops_from (W.network back.old) item.node.0) hop × (gives_back grain listing.now.items item.label hop ≡ true) }
+    ensures none { (hop : Hop) → Contains (hops_from (W.network back.old) item.node.0) hop → gives_back grain listing.now.items item.label hop ≡ true → IsTrue result }
     ensures network { W.network back.new ≡ W.network back.old }
     ensures starts { W.starts back.new ≡ W.starts back.old + 1 }
 {
@@ -78,7 +79,9 @@ fn is_open(listing: &Listing, grain: u64, tail: Option<u16>, hop: Hop) -> bool
 
 /// The lesser of two directed edges, of which there may be only the second.
 fn lesser_edge(first: Option<DirEdge>, by: DirEdge) -> DirEdge
-    ensures { Some result ≡ with_hop true first by }
+    ensures one { (first ≡ Some result) ⊎ (result ≡ by) }
+    ensures least { index_of result ≤ index_of by }
+    ensures first { IfSome first (λ edge. index_of result ≤ index_of edge) }
 {
     match first {
         Some(first) if index_of_edge(first) <= index_of_edge(by) => first,
@@ -97,7 +100,8 @@ pub(crate) fn open_at<V: RoadView>(
     requires nodes { listing.now.nodes ≡ (V.network view.old).nodes }
     requires count { V.starts view.old ≤ 2 ^ 63 }
     requires fine { 1 ≤ grain }
-    ensures open { result ≡ least_open grain listing.now.items node.0 None (hops_from (V.network view.old) node.0) }
+    ensures none { IfNone result (IsClosedAt (V.network view.old) grain listing.now.items node.0) }
+    ensures some { IfSome result (IsFirstOpenAt (V.network view.old) grain listing.now.items node.0) }
     ensures network { V.network view.new ≡ V.network view.old }
     ensures starts { V.starts view.new ≡ V.starts view.old + 1 }
 {

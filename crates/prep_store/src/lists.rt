@@ -55,10 +55,10 @@ fn may_follow<W: RoadView>(
 }
 
 /// Reads so many items, each of which may follow those before it, into an empty list.
-fn read_items<S: Source, W: RoadView>(
+fn read_items<S: Source, W: FreshView + Drop>(
     source: &mut S,
     at: &mut u64,
-    back: &mut W,
+    back: &W,
     listing: &mut Listing,
     grain: u64,
     landmark: NodeId,
@@ -67,20 +67,20 @@ fn read_items<S: Source, W: RoadView>(
 ) -> Result<(), PrepFault>
     requires small { at.old ≤ 2 ^ 60 }
     requires empty { listing.old.items ≡ [] }
-    requires nodes { listing.old.nodes ≡ (W.network back.old).nodes }
-    requires landmark { landmark.0 < (W.network back.old).nodes }
-    requires count { W.starts back.old ≡ 0 }
+    requires nodes { listing.old.nodes ≡ (W.network back.now).nodes }
+    requires landmark { landmark.0 < (W.network back.now).nodes }
     requires fine { 1 ≤ grain }
     ensures text { OnOk result (Takes (place S.left S.faults S.mark source.old at.old) (place S.left S.faults S.mark source.new at.new) (items_text listing.new.items)) }
     ensures each { OnOk result (length listing.new.items ≡ count) }
     ensures nodes { OnOk result (listing.new.nodes ≡ listing.old.nodes) }
-    ensures order { (network : Network) → AreTurned network (W.network back.old) → LeadsToNodes network → OnOk result (MayAllFollow network grain landmark.0 [] listing.new.items) }
-    ensures fails { (network : Network) → AreTurned network (W.network back.old) → LeadsToNodes network →
+    ensures order { (network : Network) → AreTurned network (W.network back.now) → LeadsToNodes network → OnOk result (MayAllFollow network grain landmark.0 [] listing.new.items) }
+    ensures fails { (network : Network) → AreTurned network (W.network back.now) → LeadsToNodes network →
         IfErr result (Fails (FailsInItems network grain landmark.0 which count) (place S.left S.faults S.mark source.old at.old) (place S.left S.faults S.mark source.new at.new)) }
 {
+    let mut behind = back.again();
     'items: for place in 0..count {
         let item = read_item(source, at)?;
-        if !may_follow(back, listing, grain, landmark, item) {
+        if !may_follow(&mut behind, listing, grain, landmark, item) {
             return Err(PrepFault::Order {
                 landmark: which.landmark,
                 back: which.back,
@@ -93,18 +93,18 @@ fn read_items<S: Source, W: RoadView>(
 }
 
 /// The first open hop of a list, by its tail's place and then by its directed edge; None where the list is closed.
-fn find_open<V: RoadView>(view: &mut V, listing: &Listing, grain: u64) -> Option<DirEdge>
-    requires nodes { listing.now.nodes ≡ (V.network view.old).nodes }
+fn find_open<V: FreshView + Drop>(view: &V, listing: &Listing, grain: u64) -> Option<DirEdge>
+    requires nodes { listing.now.nodes ≡ (V.network view.now).nodes }
     requires few { length listing.now.items < 2 ^ 32 }
-    requires count { V.starts view.old ≡ 0 }
     requires fine { 1 ≤ grain }
-    ensures none { IfNone result ((item : Item) → Contains listing.now.items item → IsClosedAt (V.network view.old) grain listing.now.items item.node.0) }
-    ensures some { IfSome result (IsFirstOpen (V.network view.old) grain listing.now.items) }
+    ensures none { IfNone result ((item : Item) → Contains listing.now.items item → IsClosedAt (V.network view.now) grain listing.now.items item.node.0) }
+    ensures some { IfSome result (IsFirstOpen (V.network view.now) grain listing.now.items) }
 {
+    let mut ahead = view.again();
     let items = listing.items();
     'items: for place in 0..items.len() {
         let item = items[place];
-        match open_at(view, listing, grain, item.node) {
+        match open_at(&mut ahead, listing, grain, item.node) {
             Some(edge) => return Some(edge),
             None => {}
         }
@@ -144,19 +144,17 @@ fn read_list<S: Source, V: FreshView + Drop, W: FreshView + Drop>(
         });
     }
     let mut listing = Listing::new(alloc, out.node_count())?;
-    let mut behind = back.again();
     read_items(
         source,
         at,
-        &mut behind,
+        back,
         &mut listing,
         grain,
         landmark,
         which,
         count,
     )?;
-    let mut ahead = out.again();
-    match find_open(&mut ahead, &listing, grain) {
+    match find_open(out, &listing, grain) {
         None => Ok(listing),
         Some(edge) => Err(PrepFault::Open {
             landmark: which.landmark,

@@ -1,5 +1,5 @@
 //! Numbers and items, as they come from a source.
-ghost use Rattle.std.specs.Prelude.{◌≡◌, ◌+◌, ◌++◌, ◌<◌, ◌≤◌, ◌^◌, ℕ, [], length, take, IfOk, IfErr, OnOk};
+ghost use Rattle.std.specs.Prelude.{◌≡◌, ◌+◌, ◌++◌, ◌<◌, ◌≤◌, ◌^◌, [], length, take, IfOk, IfErr, OnOk};
 ghost use Rattle.std.specs.Io.KnownBytes.{Consumes, IsAtEnd};
 ghost use Rattle.byteorder.specs.Endian.{big_bytes};
 ghost use Rattle.gh_base.specs.Causes.{HasCause};
@@ -112,9 +112,9 @@ pub(crate) fn read_item<S: Source>(source: &mut S, at: &mut u64) -> Result<Item,
 
 /// Reads the end.
 pub(crate) fn read_end<S: Source>(source: &mut S) -> Result<(), PrepFault>
-    ensures taken { OnOk result ((at : ℕ) → Takes (place S.left S.faults S.mark source.old at) (place S.left S.faults S.mark source.new at) []) }
+    ensures taken { OnOk result (Takes (place S.left S.faults S.mark source.old 0) (place S.left S.faults S.mark source.new 0) []) }
     ensures end { OnOk result (IsAtEnd (S.left source.new)) }
-    ensures fails { IfErr result (λ fault. (at : ℕ) → Fails (λ _. IsLeft) (place S.left S.faults S.mark source.old at) (place S.left S.faults S.mark source.new at) fault) }
+    ensures fails { IfErr result (Fails (λ _. IsLeft) (place S.left S.faults S.mark source.old 0) (place S.left S.faults S.mark source.new 0)) }
 {
     let mut buf = [0; 1];
     let Ok(count) = fill(source, &mut buf) else {

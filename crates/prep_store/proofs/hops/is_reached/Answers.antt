@@ -1,31 +1,40 @@
-use Rattle.std.proofs.Common.{◌≡◌, false, ◌||◌, List, Bool, Contains, sym, subst, ap, ◌∙◌, arith}
-use Rattle.std.specs.List.{list_any}
+use Rattle.std.proofs.Common.{ℕ, List, [], Option, Contains, sym, subst, ap, ◌∙◌, arith}
 use Rattle.gh_base.specs.declared.edges.Hop.{Hop}
-use Rattle.prep_store.specs.Steps.{gives, gives_back}
-use Rattle.prep_store.proofs.Lefts.{contains_first, contains_rest}
+use Rattle.walk_rules.specs.Walks.{hops_from}
+use Rattle.prep_store.specs.Steps.{gives, gives_back, IsStillSought}
+use Rattle.prep_store.proofs.Opens.{first_contained, sought_none, sought_more}
 use Rattle.prep_store.proofs.hops.is_reached.Goals as goal
 
 pub hops-init : goal.hops-init
-hops-init g c = record {
-  same = c.start_at.ensures.network;
-  starts = c.start_at.ensures.starts;
-  any = ap (list_any (gives_back c.args.grain c.args.listing.now.items c.args.item.label)) (sym c.start_at.ensures.left);
-  lead = λ hop h. g.met.W.RoadView.leads c.args.back.now c.args.item.node.0 hop (subst (λ (hops : List Hop). Contains hops hop) c.start_at.ensures.left h);
-}
+hops-init g c =
+    let hops = hops_from (g.W.RoadView.network c.args.back.now) c.args.item.node.0 in
+    record {
+      same = c.start_at.ensures.network;
+      starts = c.start_at.ensures.starts;
+      sought = subst (λ (left : List Hop). IsStillSought c.args.grain c.args.listing.now.items c.args.item.label hops left) (sym c.start_at.ensures.left) (sought_none c.args.grain c.args.listing.now.items c.args.item.label hops);
+    }
 
 pub label-requires : goal.label-requires
-label-requires g c = omega (arith, c.requires.nodes, c.hops.invariant.lead c.in-Some.hop (contains_first c.in-Some.ensures.hop))
+label-requires g c =
+    let here : Contains (g.W.RoadView.left c.hops.back) c.in-Some.hop = subst (λ (left : List Hop). Contains left c.in-Some.hop) (sym c.in-Some.ensures.hop) (first_contained c.in-Some.hop _) in
+    omega (arith, c.requires.nodes, g.met.W.RoadView.leads c.args.back.now c.args.item.node.0 c.in-Some.hop (c.hops.invariant.sought.rest c.in-Some.hop here))
+
+pub returns-then-gives-clause-some : goal.returns-then-gives-clause-some
+returns-then-gives-clause-some g c = λ _.
+    let here : Contains (g.W.RoadView.left c.hops.back) c.in-Some.hop = subst (λ (left : List Hop). Contains left c.in-Some.hop) (sym c.in-Some.ensures.hop) (first_contained c.in-Some.hop _) in
+    (c.in-Some.hop, c.hops.invariant.sought.rest c.in-Some.hop here, ap (λ (o : Option ℕ). gives c.args.grain o c.in-Some.hop.weight c.args.item.label) (sym c.label.ensures) ∙ (sym c.gives.ensures ∙ c.if-gives.true))
 
 pub hops-preserved : goal.hops-preserved
 hops-preserved g c =
-    let i = c.hops.invariant in
     let e = c.in-Some.ensures in
-    let test = gives_back c.args.grain c.args.listing.now.items c.args.item.label in
-    let no : test c.in-Some.hop ≡ false =
-    ap (λ o. gives c.args.grain o c.in-Some.hop.weight c.args.item.label) (sym c.label.ensures) ∙ (sym c.gives.ensures ∙ c.if-gives.false) in
     record {
-      same = e.network ∙ i.same;
-      starts = omega (arith, e.starts, i.starts);
-      any = i.any ∙ (ap (list_any test) e.hop ∙ ap (λ (b : Bool). b || list_any test (g.W.RoadView.left c.next_hop.new.self)) no);
-      lead = λ hop h. i.lead hop (contains_rest e.hop hop h);
+      same = e.network ∙ c.hops.invariant.same;
+      starts = omega (arith, e.starts, c.hops.invariant.starts);
+      sought = sought_more (subst (λ (left : List Hop). IsStillSought c.args.grain c.args.listing.now.items c.args.item.label (hops_from (g.W.RoadView.network c.args.back.now) c.args.item.node.0) left) e.hop c.hops.invariant.sought)
+          (ap (λ (o : Option ℕ). gives c.args.grain o c.in-Some.hop.weight c.args.item.label) (sym c.label.ensures) ∙ (sym c.gives.ensures ∙ c.if-gives.false));
     }
+
+pub returns-clause-none : goal.returns-clause-none
+returns-clause-none g c = λ hop leaves yes.
+    let left : Contains [] hop = subst (λ (left : List Hop). Contains left hop) c.in_default.ensures.end (c.hops.invariant.sought.none hop leaves yes) in
+    absurd (omega (arith, left.1))

@@ -1,37 +1,35 @@
-use Rattle.std.proofs.Common.{◌≡◌, false, true, List, Bool, None, Option, Contains, sym, subst, ap, ◌∙◌, arith}
-use Rattle.gh_base.specs.declared.edges.DirEdge.{DirEdge}
+use Rattle.std.proofs.Common.{List, Contains, None, sym, subst, ◌∙◌, arith}
 use Rattle.gh_base.specs.declared.edges.Hop.{Hop}
-use Rattle.prep_store.specs.Evidence.{is_open}
-use Rattle.prep_store.specs.Steps.{least_open, with_hop}
-use Rattle.prep_store.proofs.Lefts.{contains_first, contains_rest}
+use Rattle.walk_rules.specs.Walks.{hops_from}
+use Rattle.prep_store.specs.Steps.{IsLeastSoFar}
+use Rattle.prep_store.proofs.Opens.{first_contained, least_none, least_kept, least_now, least_closed, least_found, none_then, some_then}
 use Rattle.prep_store.proofs.hops.open_at.Goals as goal
 
 pub hops-init : goal.hops-init
-hops-init g c = record {
-  same = c.start_at.ensures.network;
-  starts = c.start_at.ensures.starts;
-  least = ap (least_open c.args.grain c.args.listing.now.items c.args.node.0 None) (sym c.start_at.ensures.left);
-  lead = λ hop h. g.met.V.RoadView.leads c.args.view.now c.args.node.0 hop (subst (λ (hops : List Hop). Contains hops hop) c.start_at.ensures.left h);
-  tail = sym c.label-tail.ensures;
-}
+hops-init g c =
+    let hops = hops_from (g.V.RoadView.network c.args.view.now) c.args.node.0 in
+    record {
+      same = c.start_at.ensures.network;
+      starts = c.start_at.ensures.starts;
+      least = subst (λ (left : List Hop). IsLeastSoFar c.args.grain c.args.listing.now.items c.args.node.0 hops left None) (sym c.start_at.ensures.left) (least_none c.args.grain c.args.listing.now.items c.args.node.0 hops);
+      tail = sym c.label-tail.ensures;
+    }
 
 pub is_open-requires-clause-head : goal.is_open-requires-clause-head
-is_open-requires-clause-head g c = omega (arith, c.requires.nodes, c.hops.invariant.lead c.in-Some.hop (contains_first c.in-Some.ensures.hop))
+is_open-requires-clause-head g c =
+    let here : Contains (g.V.RoadView.left c.hops.view) c.in-Some.hop = subst (λ (left : List Hop). Contains left c.in-Some.hop) (sym c.in-Some.ensures.hop) (first_contained c.in-Some.hop _) in
+    omega (arith, c.requires.nodes, g.met.V.RoadView.leads c.args.view.now c.args.node.0 c.in-Some.hop (c.hops.invariant.least.rest c.in-Some.hop here))
 
 pub hops-preserved-then-is_open : goal.hops-preserved-then-is_open
 hops-preserved-then-is_open g c =
     let i = c.hops.invariant in
     let e = c.in-Some.ensures in
-    let items = c.args.listing.now.items in
-    let node = c.args.node.0 in
-    let yes : is_open c.args.grain items node c.in-Some.hop ≡ true = sym (c.is_open.ensures node i.tail) ∙ c.if-is_open.true in
+    let l = c.lesser_edge.ensures in
     record {
       same = e.network ∙ i.same;
       starts = omega (arith, e.starts, i.starts);
-      least = i.least ∙ (ap (least_open c.args.grain items node c.hops.first) e.hop
-          ∙ (ap (λ (b : Bool). least_open c.args.grain items node (with_hop b c.hops.first c.in-Some.hop.by) (g.V.RoadView.left c.next_hop.new.self)) yes
-          ∙ ap (λ (o : Option DirEdge). least_open c.args.grain items node o (g.V.RoadView.left c.next_hop.new.self)) (sym c.lesser_edge.ensures)));
-      lead = λ hop h. i.lead hop (contains_rest e.hop hop h);
+      least = least_now (subst (λ (left : List Hop). IsLeastSoFar c.args.grain c.args.listing.now.items c.args.node.0 (hops_from (g.V.RoadView.network c.args.view.now) c.args.node.0) left c.hops.first) e.hop i.least)
+          c.lesser_edge.result (sym (c.is_open.ensures c.args.node.0 i.tail) ∙ c.if-is_open.true) l.one l.least l.first;
       tail = i.tail;
     }
 
@@ -39,14 +37,16 @@ pub hops-preserved : goal.hops-preserved
 hops-preserved g c =
     let i = c.hops.invariant in
     let e = c.in-Some.ensures in
-    let items = c.args.listing.now.items in
-    let node = c.args.node.0 in
-    let no : is_open c.args.grain items node c.in-Some.hop ≡ false = sym (c.is_open.ensures node i.tail) ∙ c.if-is_open.false in
     record {
       same = e.network ∙ i.same;
       starts = omega (arith, e.starts, i.starts);
-      least = i.least ∙ (ap (least_open c.args.grain items node c.hops.first) e.hop
-          ∙ ap (λ (b : Bool). least_open c.args.grain items node (with_hop b c.hops.first c.in-Some.hop.by) (g.V.RoadView.left c.next_hop.new.self)) no);
-      lead = λ hop h. i.lead hop (contains_rest e.hop hop h);
+      least = least_kept (subst (λ (left : List Hop). IsLeastSoFar c.args.grain c.args.listing.now.items c.args.node.0 (hops_from (g.V.RoadView.network c.args.view.now) c.args.node.0) left c.hops.first) e.hop i.least)
+          (sym (c.is_open.ensures c.args.node.0 i.tail) ∙ c.if-is_open.false);
       tail = i.tail;
     }
+
+pub returns-clause-none : goal.returns-clause-none
+returns-clause-none g c = none_then c.hops.first (least_closed (g.V.RoadView.network c.args.view.now) c.hops.invariant.least c.in_default.ensures.end)
+
+pub returns-clause-some : goal.returns-clause-some
+returns-clause-some g c = some_then c.hops.first (least_found (g.V.RoadView.network c.args.view.now) c.hops.invariant.least c.in_default.ensures.end)

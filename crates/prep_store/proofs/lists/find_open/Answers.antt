@@ -8,8 +8,7 @@ use Rattle.prep_store.proofs.lists.find_open.Goals as goal
 pub returns-in-Some-clause-some : goal.returns-in-Some-clause-some
 returns-in-Some-clause-some g c =
     let i = c.items.invariant in
-    first_of (g.V.RoadView.network c.args.view.now) (g.V.RoadView.network c.items.view) i.same c.args.grain c.items-items.result.now c.args.listing.now.items c.items-items.ensures.items c.items.place c.items-test.true _ i.closed
-    c.in-Some.edge (sym c.open_at.ensures.«open» ∙ c.in-Some.is)
+    first_of (g.V.RoadView.network c.args.view.now) (g.V.RoadView.network c.items.ahead) i.same c.args.grain c.items-items.result.now c.args.listing.now.items c.items-items.ensures.items c.items.place c.items-test.true _ i.closed c.in-Some.edge c.in-Some.ensures.some
 
 pub items-preserved : goal.items-preserved
 items-preserved g c =
@@ -19,8 +18,7 @@ items-preserved g c =
       starts = omega (arith, c.open_at.ensures.starts, i.starts);
       items = c.items-items.ensures.items;
       end = i.end;
-      closed = closed_next (g.V.RoadView.network c.args.view.now) (g.V.RoadView.network c.items.view) i.same c.args.grain c.items-items.result.now c.args.listing.now.items c.items-items.ensures.items c.items.place c.items-test.true _ i.closed
-          (sym c.open_at.ensures.«open» ∙ c.in-None.is);
+      closed = closed_next (g.V.RoadView.network c.args.view.now) (g.V.RoadView.network c.items.ahead) i.same c.args.grain c.items-items.result.now c.args.listing.now.items c.items-items.ensures.items c.items.place c.items-test.true _ i.closed c.in-None.ensures.none;
     }
 
 pub returns-clause-none : goal.returns-clause-none

@@ -1,6 +1,5 @@
 use Rattle.std.specs.Prelude.{IsTrue}
 use Rattle.std.proofs.Common.{false, sym, ◌∙◌, arith}
-use Rattle.walk_rules.specs.Walks.{hops_from}
 use Rattle.prep_store.proofs.Follows.{given_small, follows_not_past, follows_not_listed, follows_if, follows_then}
 use Rattle.prep_store.proofs.lists.may_follow.Goals as goal
 
@@ -22,14 +21,14 @@ returns-in-Some-clause-follows g c = λ network turned leads. (
 )
 
 pub returns-in-None-clause-node : goal.returns-in-None-clause-node
-returns-in-None-clause-node g c = λ t. record {
-  node = omega (arith, c.node_count.ensures, c.if-item-node_count.false);
-  label = given_small c.args.grain c.args.listing.now.items c.args.item.label (hops_from (g.W.RoadView.network c.args.back.now) c.args.item.node.0) (sym c.is_reached.ensures.reached ∙ t);
-}
+returns-in-None-clause-node g c = λ t.
+    let h = c.is_reached.ensures.some t in
+    record { node = omega (arith, c.node_count.ensures, c.if-item-node_count.false); label = given_small c.args.grain c.args.listing.now.items c.args.item.label h.0 h.2 }
 
 pub returns-in-None-clause-follows : goal.returns-in-None-clause-follows
 returns-in-None-clause-follows g c = λ network turned leads. (
   λ t. follows_if network (g.W.RoadView.network c.args.back.now) turned leads c.args.grain c.args.landmark.0 c.args.listing.now.items c.args.item (λ e. not_true (c.if-is_empty.ensures.1 e))
-      (sym c.label.ensures ∙ c.in-None.is) (sym c.is_reached.ensures.reached ∙ t),
-  λ f. c.is_reached.ensures.reached ∙ follows_then network (g.W.RoadView.network c.args.back.now) turned leads c.args.grain c.args.landmark.0 c.args.listing.now.items c.args.item (λ e. not_true (c.if-is_empty.ensures.1 e)) f,
+      (sym c.label.ensures ∙ c.in-None.is) (c.is_reached.ensures.some t),
+  λ f. let h = follows_then network (g.W.RoadView.network c.args.back.now) turned leads c.args.grain c.args.landmark.0 c.args.listing.now.items c.args.item (λ e. not_true (c.if-is_empty.ensures.1 e)) f in
+      c.is_reached.ensures.none h.0 h.1 h.2,
 )

@@ -26,7 +26,7 @@ returns-then-not-may_follow-clause-fails g c = λ network turned leads.
     let i = c.items.invariant in
     let item = c.in_ok-item.item in
     let read = c.in_ok-item.ensures in
-    let turned_here : AreTurned network (g.W.RoadView.network c.items.back) = subst (λ (n : Network). AreTurned network n) (sym i.same) turned in
+    let turned_here : AreTurned network (g.W.RoadView.network c.items.behind) = subst (λ (n : Network). AreTurned network n) (sym i.same) turned in
     let other : MayFollow network c.args.grain c.args.landmark.0 c.items.listing.items item → ⊥ = λ f. let t = (c.if-not-may_follow.ensures.follows network turned_here leads).1 f in absurd (cc) in
     item_other network c.args.grain c.args.landmark.0 c.args.which c.args.count c.items.listing.items (omega (arith, i.so_far, c.items-test.true)) (i.order network turned leads)
     c.items.place item i.so_far i.taken read.item read.node read.label other
@@ -46,7 +46,7 @@ items-preserved g c =
       so_far = omega (arith, ap (λ (xs : List Item). length xs) pushed, length_push items item, i.so_far);
       nodes = ap (λ (l : Listed). l.nodes) c.in_ok-push.ensures ∙ i.nodes;
       order = λ network turned leads.
-          let turned_here : AreTurned network (g.W.RoadView.network c.items.back) = subst (λ (n : Network). AreTurned network n) (sym i.same) turned in
+          let turned_here : AreTurned network (g.W.RoadView.network c.items.behind) = subst (λ (n : Network). AreTurned network n) (sym i.same) turned in
           subst (λ (xs : List Item). MayAllFollow network c.args.grain c.args.landmark.0 [] xs) (sym pushed)
           (follow_push network c.args.grain c.args.landmark.0 [] items item (i.order network turned leads) ((c.if-not-may_follow.ensures.follows network turned_here leads).0 refl));
       same = c.may_follow.ensures.network ∙ i.same;

@@ -14,7 +14,7 @@ invariant-items g l =
       taken : Takes (seen l.fn.source l.fn.at) (seen l.source l.at) (items_text l.listing.items);
       so_far : length l.listing.items ≡ l.place;
       nodes : l.listing.nodes ≡ l.fn.listing.nodes;
-      order : (network : Network) → AreTurned network (g.W.RoadView.network l.fn.back) → LeadsToNodes network → MayAllFollow network l.grain l.landmark.0 [] l.listing.items;
-      same : g.W.RoadView.network l.back ≡ g.W.RoadView.network l.fn.back;
-      starts : g.W.RoadView.starts l.back ≤ l.place;
+      order : (network : Network) → AreTurned network (g.W.RoadView.network l.back) → LeadsToNodes network → MayAllFollow network l.grain l.landmark.0 [] l.listing.items;
+      same : g.W.RoadView.network l.behind ≡ g.W.RoadView.network l.back;
+      starts : g.W.RoadView.starts l.behind ≤ l.place;
     }

@@ -1,9 +1,6 @@
 use Rattle.std.proofs.Common.{◌++◌, ◌≡◌, ℕ, length, refl, sym, ap, subst, inl, inr, arith}
 use Rattle.byteorder.specs.Endian.{big_bytes}
-use Rattle.gh_base.specs.Networks.{Network}
-use Rattle.walk_rules.specs.Walks.{AreTurned}
 use Rattle.prep_store.specs.declared.fault.PrepFault.TheVariants as faults
-use Rattle.prep_store.specs.Evidence.{IsClosedAt, IsFirstOpen}
 use Rattle.prep_store.specs.Stores.{items_text}
 use Rattle.prep_store.specs.FirstFaults.{FailsInList}
 use Rattle.prep_store.proofs.Telling.{taken_then, taken_as, fails_as, fails_at, fails_behind, out_of_memory, handed_on}
@@ -26,10 +23,9 @@ returns-in_err-listing-clause-fails g c =
 pub returns-in_err-read_items-clause-fails : goal.returns-in_err-read_items-clause-fails
 returns-in_err-read_items-clause-fails g c =
     let network = g.V.RoadView.network c.args.out.now in
-    let turned : AreTurned network (g.W.RoadView.network c.again-behind.result) = subst (λ (n : Network). AreTurned network n) (sym c.again-behind.ensures.network) c.requires.turned in
     let count = c.in_ok-count.ensures in
     handed_on (FailsInList network c.args.grain c.args.landmark.0 c.args.which) c.from_residual-in_err-read_items.result c.from_residual-in_err-read_items.ensures.1
-    (fails_behind count.number (c.in_err-read_items.ensures.fails network turned (g.met.V.RoadView.leads c.args.out.now)) (λ total rest after e f. inr (inl (c.in_ok-count.count, count.word, (after, e, inr f)))))
+    (fails_behind count.number (c.in_err-read_items.ensures.fails network c.requires.turned (g.met.V.RoadView.leads c.args.out.now)) (λ total rest after e f. inr (inl (c.in_ok-count.count, count.word, (after, e, inr f)))))
 
 pub returns-in-None-clause-text : goal.returns-in-None-clause-text
 returns-in-None-clause-text g c =
@@ -38,12 +34,11 @@ returns-in-None-clause-text g c =
 pub returns-in-None-clause-evidence : goal.returns-in-None-clause-evidence
 returns-in-None-clause-evidence g c =
     let network = g.V.RoadView.network c.args.out.now in
-    let turned : AreTurned network (g.W.RoadView.network c.again-behind.result) = subst (λ (n : Network). AreTurned network n) (sym c.again-behind.ensures.network) c.requires.turned in
     let each = c.in_ok-read_items.ensures.each in
     record {
       some = grind (arith, each, c.if-count-eq0.false);
-      order = c.in_ok-read_items.ensures.order network turned (g.met.V.RoadView.leads c.args.out.now);
-      closed = λ item h. subst (λ (n : Network). IsClosedAt n c.args.grain c.read_items.new.listing.items item.node.0) c.again-ahead.ensures.network (c.in-None.ensures.none item h);
+      order = c.in_ok-read_items.ensures.order network c.requires.turned (g.met.V.RoadView.leads c.args.out.now);
+      closed = c.in-None.ensures.none;
     }
 
 pub returns-in-None-clause-bounded : goal.returns-in-None-clause-bounded
@@ -54,7 +49,6 @@ pub returns-in-Some-clause-fails : goal.returns-in-Some-clause-fails
 returns-in-Some-clause-fails g c =
     let network = g.V.RoadView.network c.args.out.now in
     let items = c.read_items.new.listing.items in
-    let turned : AreTurned network (g.W.RoadView.network c.again-behind.result) = subst (λ (n : Network). AreTurned network n) (sym c.again-behind.ensures.network) c.requires.turned in
     let each = c.in_ok-read_items.ensures.each in
     fails_at (faults.Open c.args.which.landmark c.args.which.back c.in-Some.edge)
     (taken_as (ap (λ (n : ℕ). big_bytes 4 n ++ items_text items) (sym each)) (taken_then c.in_ok-count.ensures.number c.in_ok-read_items.ensures.text)) refl (λ total rest after e. inr (inr (record {
@@ -63,8 +57,8 @@ returns-in-Some-clause-fails g c =
       bytes = e;
       word = omega (arith, each, c.in_ok-count.ensures.word);
       some = grind (arith, each, c.if-count-eq0.false);
-      order = c.in_ok-read_items.ensures.order network turned (g.met.V.RoadView.leads c.args.out.now);
+      order = c.in_ok-read_items.ensures.order network c.requires.turned (g.met.V.RoadView.leads c.args.out.now);
       edge = c.in-Some.edge;
-      opens = subst (λ (n : Network). IsFirstOpen n c.args.grain items c.in-Some.edge) c.again-ahead.ensures.network c.in-Some.ensures.some;
+      opens = c.in-Some.ensures.some;
       is = refl;
     })))

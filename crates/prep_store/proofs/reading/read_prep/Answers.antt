@@ -1,4 +1,4 @@
-use Rattle.std.proofs.Common.{◌≡◌, ◌*◌, ℕ, length, refl, inr, inl, sym, subst, ap, ◌∙◌, arith}
+use Rattle.std.proofs.Common.{◌≡◌, ◌≤◌, ◌*◌, ℕ, length, refl, inr, inl, sym, subst, ap, ◌∙◌, arith}
 use Rattle.std.specs.Prelude.{IfSome}
 use Rattle.base_graph.specs.Graphs.{Graph, IsGraph}
 use Rattle.landmark_prep.specs.Preparations.{Preparation}
@@ -58,8 +58,9 @@ returns-in_err-read_end-clause-first g c =
       limits = limits.ensures.text; long = limits.ensures.long ∙ ap (λ (n : ℕ). 2 * n) edges; each = limits.ensures.each;
     } in
     let read = c.in_ok-placing.ensures.read in
+    let f = c.in_err-read_end.ensures.fails in
     first_fault land c.from_residual-in_err-read_end.result c.from_residual-in_err-read_end.ensures.1 refl
-    (end_fails land _ _ _ _ head.head.profile head.head.count limits.snapshot front _ c.in_ok-placing.field-0.placing.grain read.0 c.in_ok-placing.field-0.labels read.1 read.2 (c.in_err-read_end.ensures.fails c.read_parts.new.at))
+    (end_fails land _ _ _ _ head.head.profile head.head.count limits.snapshot front _ c.in_ok-placing.field-0.placing.grain read.0 c.in_ok-placing.field-0.labels read.1 read.2 {e = seen c.read_end.new.source 0} (record { told = f.told; rose = f.rose; later = f.later; mark = f.mark }))
 
 pub of_parts-requires : goal.of_parts-requires
 of_parts-requires g c =
@@ -84,7 +85,7 @@ returns-clause-stored g c =
     } in
     let read = c.in_ok-placing.ensures.read in
     subst (λ (p : Preparation). IfSome (g.S.Source.left c.args.source.now) (IsStored land p)) (sym c.of_parts.ensures)
-    (stored_all land _ _ _ _ head.head.profile head.head.count limits.snapshot front _ c.in_ok-placing.field-0.placing.grain read.0 c.in_ok-placing.field-0.labels read.1 read.2 (c.in_ok-read_end.ensures.taken c.read_parts.new.at) c.in_ok-read_end.ensures.end)
+    (stored_all land _ _ _ _ head.head.profile head.head.count limits.snapshot front _ c.in_ok-placing.field-0.placing.grain read.0 c.in_ok-placing.field-0.labels read.1 read.2 (g.S.Source.left c.read_end.new.source) c.in_ok-read_end.ensures.taken.bytes c.in_ok-read_end.ensures.end)
 
 pub returns-clause-true_over : goal.returns-clause-true_over
 returns-clause-true_over g c =
