@@ -3,6 +3,7 @@ use Rattle.std.proofs.Common.{◌≡◌, ℕ, zero, suc, ◌+◌, ◌-◌, ◌<�
 use Rattle.std.proofs.Math.Seq.{take-append-add}
 use Rattle.std.proofs.lemmas.List.{length-take-le, length-drop, take_all, take-append-drop, take-append-le}
 use Rattle.std.proofs.lemmas.Nat.{be_bytes_2, be_bytes_4, be_bytes_8}
+use Rattle.std.specs.Int.{w32, w64, from_be_bytes}
 use borrow.Rule.Slice.PartMut.{mid_of, put_mid, post_of, same_len_mid}
 use Rattle.byteorder.specs.Endian.{big_number, big_bytes}
 use Rattle.byteorder.specs.Numbers.{big_from-take}
@@ -20,9 +21,6 @@ of_two xs long small = be_bytes_2 xs (big_number 2 xs) long small (omega arith)
 pub of_four : AreOfNumber 4
 of_four xs long small = be_bytes_4 xs (big_number 4 xs) long small (omega arith)
 
-pub of_eight : AreOfNumber 8
-of_eight xs long small = be_bytes_8 xs (big_number 8 xs) long small (omega arith)
-
 small_take : (n : ℕ) (xs : List ℕ) → IsEachByte xs → IsEachByte (take n xs)
 small_take zero xs small k = omega arith
 small_take (suc n) [] small k = omega arith
@@ -35,8 +33,11 @@ small_drop (suc n) [] small k = omega arith
 small_drop (suc n) (x ∷ xs) small k = small_drop n xs (λ i. small (suc i)) k
 
 -- a number was taken
-pub number_taken : {a b : Place} (n : ℕ) (xs : List ℕ) (x : ℕ) → AreOfNumber n → x ≡ big_number n xs → length xs ≡ n → IsEachByte xs → Takes a b xs → Takes a b (big_bytes n x)
-number_taken n xs x of is long small taken = taken_as (sym (ap (big_bytes n) is ∙ of xs long small)) taken
+pub four_taken : {a b : Place} (xs : List ℕ) (x : ℕ) → x ≡ from_be_bytes w32 xs → length xs ≡ 4 → IsEachByte xs → Takes a b xs → Takes a b (big_bytes 4 x)
+four_taken xs x is long small taken = taken_as (sym (be_bytes_4 xs x long small is)) taken
+
+pub eight_taken : {a b : Place} (xs : List ℕ) (x : ℕ) → x ≡ from_be_bytes w64 xs → length xs ≡ 8 → IsEachByte xs → Takes a b xs → Takes a b (big_bytes 8 x)
+eight_taken xs x is long small taken = taken_as (sym (be_bytes_8 xs x long small is)) taken
 
 -- two were
 pub two_taken : {a b : Place} (n m : ℕ) (xs : List ℕ) (x y : ℕ) → AreOfNumber n → AreOfNumber m → x ≡ big_number n xs → y ≡ big_number m (take m (drop n xs)) → length xs ≡ n + m → IsEachByte xs → Takes a b xs → Takes a b (big_bytes n x ++ big_bytes m y)

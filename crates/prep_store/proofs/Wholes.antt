@@ -60,6 +60,11 @@ pub record AreTaken (land : Land) (a b c : Place) (profile count : ℕ) (snapsho
   pub long : length snapshot ≡ 2 * length land.graph.edges
   pub each : All (λ limit. limit < 2 ^ 32) snapshot
 
+pub are_taken : {a b c : Place} {edges : ℕ} (land : Land) (profile count : ℕ) (snapshot : List ℕ) → edges ≡ length land.graph.edges → Takes a b (head_text land profile count) → profile < length land.profiles → profile < 2 ^ 32 → 1 ≤ count → count ≤ 16 →
+    Takes b c (words snapshot) → length snapshot ≡ 2 * edges → All (λ limit. limit < 2 ^ 32) snapshot → AreTaken land a b c profile count snapshot
+are_taken land profile count snapshot is head there word some few limits long each =
+    record { head = head; there = there; word = word; some = some; few = few; limits = limits; long = long ∙ ap (λ (n : ℕ). 2 * n) is; each = each }
+
 pub parts_fail : {land : Land} {a b c d : Place} {profile count : ℕ} {snapshot : List ℕ} {fault : PrepFault} → AreTaken land a b c profile count snapshot → Fails (FailsBehindLimits (roads_at land profile snapshot) (back_at land profile snapshot) count) c d fault →
     Fails (IsFirstOf land) a d fault
 parts_fail {land} {a} {b} {c} {d} {profile} {count} {snapshot} {fault} t failed = fails_behind (taken_then t.head t.limits) failed (λ total bytes rest e f same.

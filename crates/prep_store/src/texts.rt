@@ -4,37 +4,27 @@ ghost use Rattle.byteorder.specs.Endian.{big_bytes};
 ghost use Rattle.prep_store.specs.Stores.{words, item_text, items_text, list_text};
 
 use crate::item::Item;
-use byteorder::{BigEndian, ByteOrder};
 use gh_base::{NoMemory, NodeId};
 
 /// Appends a number in two bytes.
 fn put_u16(out: &mut Vec<u8>, number: u16) -> Result<(), NoMemory>
     ensures { OnOk result (out.new.items ≡ out.old.items ++ big_bytes 2 number) }
 {
-    let mut bytes = [0; 2];
-    BigEndian::write_u16(&mut bytes, number);
-    out.extend_from_slice(&bytes)?;
-    Ok(())
+    Ok(out.extend_from_slice(&number.to_be_bytes())?)
 }
 
 /// Appends a number in four bytes.
 pub(crate) fn put_u32(out: &mut Vec<u8>, number: u32) -> Result<(), NoMemory>
     ensures { OnOk result (out.new.items ≡ out.old.items ++ big_bytes 4 number) }
 {
-    let mut bytes = [0; 4];
-    BigEndian::write_u32(&mut bytes, number);
-    out.extend_from_slice(&bytes)?;
-    Ok(())
+    Ok(out.extend_from_slice(&number.to_be_bytes())?)
 }
 
 /// Appends a number in eight bytes.
 pub(crate) fn put_u64(out: &mut Vec<u8>, number: u64) -> Result<(), NoMemory>
     ensures { OnOk result (out.new.items ≡ out.old.items ++ big_bytes 8 number) }
 {
-    let mut bytes = [0; 8];
-    BigEndian::write_u64(&mut bytes, number);
-    out.extend_from_slice(&bytes)?;
-    Ok(())
+    Ok(out.extend_from_slice(&number.to_be_bytes())?)
 }
 
 /// Appends numbers in four bytes each.

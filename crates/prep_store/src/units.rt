@@ -69,7 +69,7 @@ pub(crate) fn read_u32<S: Source>(source: &mut S, at: &mut u64) -> Result<u32, P
 {
     let mut buf = [0; 4];
     read_whole(source, at, &mut buf)?;
-    Ok(BigEndian::read_u32(&buf))
+    Ok(u32::from_be_bytes(buf))
 }
 
 /// Two numbers in four bytes each, which are taken together.
@@ -91,7 +91,7 @@ pub(crate) fn read_u64<S: Source>(source: &mut S, at: &mut u64) -> Result<u64, P
 {
     let mut buf = [0; 8];
     read_whole(source, at, &mut buf)?;
-    Ok(BigEndian::read_u64(&buf))
+    Ok(u64::from_be_bytes(buf))
 }
 
 /// An item of a list.

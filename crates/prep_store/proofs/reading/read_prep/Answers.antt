@@ -7,7 +7,7 @@ use Rattle.prep_store.specs.Stores.{IsStored, roads_at, back_at}
 use Rattle.prep_store.specs.FirstFaults.{IsCut}
 use Rattle.prep_store.specs.Readings.{place}
 use Rattle.prep_store.proofs.Telling.{fails_behind}
-use Rattle.prep_store.proofs.Wholes.{IsFirstOf, AreTaken, first_fault, head_fails, parts_fail, end_fails, stored_all, stored_whole, are_parts}
+use Rattle.prep_store.proofs.Wholes.{IsFirstOf, are_taken, first_fault, head_fails, parts_fail, end_fails, stored_all, stored_whole, are_parts}
 use Rattle.prep_store.proofs.Faulting.{length-words}
 use Rattle.prep_store.proofs.Shown.{stored_true}
 use Rattle.prep_store.proofs.reading.read_prep.Goals as goal
@@ -36,14 +36,10 @@ read_parts-requires-clause-small g c =
 pub returns-in_err-placing-clause-first : goal.returns-in_err-placing-clause-first
 returns-in_err-placing-clause-first g c =
     let land = c.args.ground.now in
-    let seen = place g.S.Source.left g.S.Source.faults g.S.Source.mark in
     let head = c.in_ok-head in
     let limits = c.in_ok-snapshot in
-    let edges : c.edge_count.result ≡ length land.graph.edges = c.edge_count.ensures ∙ ap (λ (gr : Graph). length gr.edges) c.graph.ensures in
-    let front : AreTaken land (seen c.args.source.now 0) (seen c.read_head.new.source c.read_head.new.at) (seen c.read_limits.new.source c.read_limits.new.at) head.head.profile head.head.count limits.snapshot = record {
-      head = head.ensures.text; there = head.ensures.there; word = head.ensures.word; some = head.ensures.some; few = head.ensures.few;
-      limits = limits.ensures.text; long = limits.ensures.long ∙ ap (λ (n : ℕ). 2 * n) edges; each = limits.ensures.each;
-    } in
+    let front = are_taken land head.head.profile head.head.count limits.snapshot (c.edge_count.ensures ∙ ap (λ (gr : Graph). length gr.edges) c.graph.ensures) head.ensures.text head.ensures.there head.ensures.word head.ensures.some head.ensures.few
+    limits.ensures.text limits.ensures.long limits.ensures.each in
     first_fault land c.from_residual-in_err-placing.result c.from_residual-in_err-placing.ensures.1 refl (parts_fail front c.in_err-placing.ensures.fails)
 
 pub returns-in_err-read_end-clause-first : goal.returns-in_err-read_end-clause-first
@@ -52,11 +48,8 @@ returns-in_err-read_end-clause-first g c =
     let seen = place g.S.Source.left g.S.Source.faults g.S.Source.mark in
     let head = c.in_ok-head in
     let limits = c.in_ok-snapshot in
-    let edges : c.edge_count.result ≡ length land.graph.edges = c.edge_count.ensures ∙ ap (λ (gr : Graph). length gr.edges) c.graph.ensures in
-    let front : AreTaken land (seen c.args.source.now 0) (seen c.read_head.new.source c.read_head.new.at) (seen c.read_limits.new.source c.read_limits.new.at) head.head.profile head.head.count limits.snapshot = record {
-      head = head.ensures.text; there = head.ensures.there; word = head.ensures.word; some = head.ensures.some; few = head.ensures.few;
-      limits = limits.ensures.text; long = limits.ensures.long ∙ ap (λ (n : ℕ). 2 * n) edges; each = limits.ensures.each;
-    } in
+    let front = are_taken land head.head.profile head.head.count limits.snapshot (c.edge_count.ensures ∙ ap (λ (gr : Graph). length gr.edges) c.graph.ensures) head.ensures.text head.ensures.there head.ensures.word head.ensures.some head.ensures.few
+    limits.ensures.text limits.ensures.long limits.ensures.each in
     let read = c.in_ok-placing.ensures.read in
     let f = c.in_err-read_end.ensures.fails in
     first_fault land c.from_residual-in_err-read_end.result c.from_residual-in_err-read_end.ensures.1 refl
@@ -75,14 +68,10 @@ of_parts-requires g c =
 pub returns-clause-stored : goal.returns-clause-stored
 returns-clause-stored g c =
     let land = c.args.ground.now in
-    let seen = place g.S.Source.left g.S.Source.faults g.S.Source.mark in
     let head = c.in_ok-head in
     let limits = c.in_ok-snapshot in
-    let edges : c.edge_count.result ≡ length land.graph.edges = c.edge_count.ensures ∙ ap (λ (gr : Graph). length gr.edges) c.graph.ensures in
-    let front : AreTaken land (seen c.args.source.now 0) (seen c.read_head.new.source c.read_head.new.at) (seen c.read_limits.new.source c.read_limits.new.at) head.head.profile head.head.count limits.snapshot = record {
-      head = head.ensures.text; there = head.ensures.there; word = head.ensures.word; some = head.ensures.some; few = head.ensures.few;
-      limits = limits.ensures.text; long = limits.ensures.long ∙ ap (λ (n : ℕ). 2 * n) edges; each = limits.ensures.each;
-    } in
+    let front = are_taken land head.head.profile head.head.count limits.snapshot (c.edge_count.ensures ∙ ap (λ (gr : Graph). length gr.edges) c.graph.ensures) head.ensures.text head.ensures.there head.ensures.word head.ensures.some head.ensures.few
+    limits.ensures.text limits.ensures.long limits.ensures.each in
     let read = c.in_ok-placing.ensures.read in
     subst (λ (p : Preparation). IfSome (g.S.Source.left c.args.source.now) (IsStored land p)) (sym c.of_parts.ensures)
     (stored_all land _ _ _ _ head.head.profile head.head.count limits.snapshot front _ c.in_ok-placing.field-0.placing.grain read.0 c.in_ok-placing.field-0.labels read.1 read.2 (g.S.Source.left c.read_end.new.source) c.in_ok-read_end.ensures.taken.bytes c.in_ok-read_end.ensures.end)
@@ -90,14 +79,10 @@ returns-clause-stored g c =
 pub returns-clause-true_over : goal.returns-clause-true_over
 returns-clause-true_over g c =
     let land = c.args.ground.now in
-    let seen = place g.S.Source.left g.S.Source.faults g.S.Source.mark in
     let head = c.in_ok-head in
     let limits = c.in_ok-snapshot in
-    let edges : c.edge_count.result ≡ length land.graph.edges = c.edge_count.ensures ∙ ap (λ (gr : Graph). length gr.edges) c.graph.ensures in
-    let front : AreTaken land (seen c.args.source.now 0) (seen c.read_head.new.source c.read_head.new.at) (seen c.read_limits.new.source c.read_limits.new.at) head.head.profile head.head.count limits.snapshot = record {
-      head = head.ensures.text; there = head.ensures.there; word = head.ensures.word; some = head.ensures.some; few = head.ensures.few;
-      limits = limits.ensures.text; long = limits.ensures.long ∙ ap (λ (n : ℕ). 2 * n) edges; each = limits.ensures.each;
-    } in
+    let front = are_taken land head.head.profile head.head.count limits.snapshot (c.edge_count.ensures ∙ ap (λ (gr : Graph). length gr.edges) c.graph.ensures) head.ensures.text head.ensures.there head.ensures.word head.ensures.some head.ensures.few
+    limits.ensures.text limits.ensures.long limits.ensures.each in
     let read = c.in_ok-placing.ensures.read in
     let graph : IsGraph land.graph = subst (λ (gr : Graph). IsGraph gr) c.graph.ensures c.graph.result.now.facts in
     subst (λ (p : Preparation). IsTrueOver land p) (sym c.of_parts.ensures)
