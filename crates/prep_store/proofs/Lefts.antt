@@ -6,9 +6,3 @@ contains_first {A} {xs} {rest} {x} e = subst (λ (ys : List A). Contains ys x) (
 
 pub contains_rest : {A : Type 0} {xs rest : List A} {x : A} → xs ≡ x ∷ rest → (y : A) → Contains rest y → Contains xs y
 contains_rest {A} {xs} {rest} {x} e y c = subst (λ (ys : List A). Contains ys y) (sym e) (suc c.0, omega (arith, c.1), c.2)
-
--- a list round a place
-pub split_at : {A : Type 0} (xs : List A) (k : ℕ) (d : A) → k < length xs → xs ≡ take k xs ++ slice_index_or xs k d ∷ drop (suc k) xs
-split_at [] k d l = absurd (omega arith)
-split_at (x ∷ xs) zero d l = refl
-split_at (x ∷ xs) (suc k) d l = ap (λ ys. x ∷ ys) (split_at xs k d (omega arith))

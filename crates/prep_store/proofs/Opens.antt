@@ -10,15 +10,10 @@ use Rattle.gh_base.specs.Networks.{Network}
 use Rattle.walk_rules.specs.Walks.{hops_from}
 use Rattle.walk_rules.proofs.Options.{Contains-cons_cases}
 use Rattle.traffic_core.specs.History.{index_of}
+use Rattle.prep_store.proofs.Lefts.{contains_first, contains_rest}
 use Rattle.prep_store.specs.declared.item.Item.{Item}
 use Rattle.prep_store.specs.Evidence.{is_open, IsClosedAt, IsFirstOpenAt, IsFirstOpen}
 use Rattle.prep_store.specs.Steps.{gives_back, IsStillSought, IsLeastSoFar}
-
-pub first_contained : {A : Type 0} (x : A) (xs : List A) → Contains (x ∷ xs) x
-first_contained x xs = (0, omega arith, refl)
-
-pub later_contained : {A : Type 0} (x : A) (xs : List A) (y : A) → Contains xs y → Contains (x ∷ xs) y
-later_contained x xs y c = (suc c.0, omega (arith, c.1), c.2)
 
 pub sought_none : (grain : ℕ) (items : List Item) (label : ℕ) (hops : List Hop) → IsStillSought grain items label hops hops
 sought_none grain items label hops = record { rest = λ hop c. c; none = λ hop c t. c }
@@ -26,7 +21,7 @@ sought_none grain items label hops = record { rest = λ hop c. c; none = λ hop 
 -- a hop gives no label
 pub sought_more : {grain : ℕ} {items : List Item} {label : ℕ} {hops left : List Hop} {hop : Hop} → IsStillSought grain items label hops (hop ∷ left) → gives_back grain items label hop ≡ false → IsStillSought grain items label hops left
 sought_more {grain} {items} {label} {hops} {left} {hop} s isnt = record {
-  rest = λ other c. s.rest other (later_contained hop left other c);
+  rest = λ other c. s.rest other (contains_rest refl other c);
   none = λ other c t. elim (Contains-cons_cases hop left other (s.none other c t)) [
     | inl e ↦ absurd (let bad : gives_back grain items label other ≡ false = subst (λ (h : Hop). gives_back grain items label h ≡ false) e isnt in cc)
     | inr c ↦ c
@@ -40,7 +35,7 @@ module _ {grain : ℕ} {items : List Item} {node : ℕ} {hops left : List Hop} {
   -- a hop isn't open
   pub least_kept : is_open grain items node hop ≡ false → IsLeastSoFar grain items node hops left first
   least_kept isnt = record {
-    rest = λ other c. s.rest other (later_contained hop left other c);
+    rest = λ other c. s.rest other (contains_rest refl other c);
     found = s.found;
     least = λ other c o. elim (s.least other c o) [
       | inl k ↦ elim (Contains-cons_cases hop left other k) [
@@ -54,10 +49,10 @@ module _ {grain : ℕ} {items : List Item} {node : ℕ} {hops left : List Hop} {
   -- a hop is open
   pub least_now : (now : DirEdge) → is_open grain items node hop ≡ true → (first ≡ Some now) ⊎ (now ≡ hop.by) → index_of now ≤ index_of hop.by → IfSome first (λ edge. index_of now ≤ index_of edge) → IsLeastSoFar grain items node hops left (Some now)
   least_now now does one least before = record {
-    rest = λ other c. s.rest other (later_contained hop left other c);
+    rest = λ other c. s.rest other (contains_rest refl other c);
     found = λ edge e. let same : now ≡ edge = cc in elim one [
       | inl f ↦ s.found edge (f ∙ ap Some same)
-      | inr b ↦ (hop, s.rest hop (first_contained hop left), does, sym b ∙ same)
+      | inr b ↦ (hop, s.rest hop (contains_first refl), does, sym b ∙ same)
     ];
     least = λ other c o. elim (s.least other c o) [
       | inl k ↦ elim (Contains-cons_cases hop left other k) [

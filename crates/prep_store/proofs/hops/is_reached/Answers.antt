@@ -2,7 +2,8 @@ use Rattle.std.proofs.Common.{ℕ, List, [], Option, Contains, sym, subst, ap, �
 use Rattle.gh_base.specs.declared.edges.Hop.{Hop}
 use Rattle.walk_rules.specs.Walks.{hops_from}
 use Rattle.prep_store.specs.Steps.{gives, gives_back, IsStillSought}
-use Rattle.prep_store.proofs.Opens.{first_contained, sought_none, sought_more}
+use Rattle.prep_store.proofs.Lefts.{contains_first}
+use Rattle.prep_store.proofs.Opens.{sought_none, sought_more}
 use Rattle.prep_store.proofs.hops.is_reached.Goals as goal
 
 pub hops-init : goal.hops-init
@@ -16,13 +17,11 @@ hops-init g c =
 
 pub label-requires : goal.label-requires
 label-requires g c =
-    let here : Contains (g.W.RoadView.left c.hops.back) c.in-Some.hop = subst (λ (left : List Hop). Contains left c.in-Some.hop) (sym c.in-Some.ensures.hop) (first_contained c.in-Some.hop _) in
-    omega (arith, c.requires.nodes, g.met.W.RoadView.leads c.args.back.now c.args.item.node.0 c.in-Some.hop (c.hops.invariant.sought.rest c.in-Some.hop here))
+    omega (arith, c.requires.nodes, g.met.W.RoadView.leads c.args.back.now c.args.item.node.0 c.in-Some.hop (c.hops.invariant.sought.rest c.in-Some.hop (contains_first c.in-Some.ensures.hop)))
 
 pub returns-then-gives-clause-some : goal.returns-then-gives-clause-some
 returns-then-gives-clause-some g c = λ _.
-    let here : Contains (g.W.RoadView.left c.hops.back) c.in-Some.hop = subst (λ (left : List Hop). Contains left c.in-Some.hop) (sym c.in-Some.ensures.hop) (first_contained c.in-Some.hop _) in
-    (c.in-Some.hop, c.hops.invariant.sought.rest c.in-Some.hop here, ap (λ (o : Option ℕ). gives c.args.grain o c.in-Some.hop.weight c.args.item.label) (sym c.label.ensures) ∙ (sym c.gives.ensures ∙ c.if-gives.true))
+    (c.in-Some.hop, c.hops.invariant.sought.rest c.in-Some.hop (contains_first c.in-Some.ensures.hop), ap (λ (o : Option ℕ). gives c.args.grain o c.in-Some.hop.weight c.args.item.label) (sym c.label.ensures) ∙ (sym c.gives.ensures ∙ c.if-gives.true))
 
 pub hops-preserved : goal.hops-preserved
 hops-preserved g c =

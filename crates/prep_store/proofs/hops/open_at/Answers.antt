@@ -2,7 +2,8 @@ use Rattle.std.proofs.Common.{List, Contains, None, sym, subst, ◌∙◌, arith
 use Rattle.gh_base.specs.declared.edges.Hop.{Hop}
 use Rattle.walk_rules.specs.Walks.{hops_from}
 use Rattle.prep_store.specs.Steps.{IsLeastSoFar}
-use Rattle.prep_store.proofs.Opens.{first_contained, least_none, least_kept, least_now, least_closed, least_found, none_then, some_then}
+use Rattle.prep_store.proofs.Lefts.{contains_first}
+use Rattle.prep_store.proofs.Opens.{least_none, least_kept, least_now, least_closed, least_found, none_then, some_then}
 use Rattle.prep_store.proofs.hops.open_at.Goals as goal
 
 pub hops-init : goal.hops-init
@@ -17,8 +18,7 @@ hops-init g c =
 
 pub is_open-requires-clause-head : goal.is_open-requires-clause-head
 is_open-requires-clause-head g c =
-    let here : Contains (g.V.RoadView.left c.hops.view) c.in-Some.hop = subst (λ (left : List Hop). Contains left c.in-Some.hop) (sym c.in-Some.ensures.hop) (first_contained c.in-Some.hop _) in
-    omega (arith, c.requires.nodes, g.met.V.RoadView.leads c.args.view.now c.args.node.0 c.in-Some.hop (c.hops.invariant.least.rest c.in-Some.hop here))
+    omega (arith, c.requires.nodes, g.met.V.RoadView.leads c.args.view.now c.args.node.0 c.in-Some.hop (c.hops.invariant.least.rest c.in-Some.hop (contains_first c.in-Some.ensures.hop)))
 
 pub hops-preserved-then-is_open : goal.hops-preserved-then-is_open
 hops-preserved-then-is_open g c =
