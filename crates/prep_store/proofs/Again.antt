@@ -1,6 +1,6 @@
 -- What is written of a preparation is stored for it.
 use Rattle.std.specs.List.{AllZip}
-use Rattle.std.proofs.Common.{ℕ, ◌*◌, ◌≤◌, List, [], ◌∷◌, length, arith}
+use Rattle.std.proofs.Common.{ℕ, ◌*◌, ◌≤◌, List, [], ◌∷◌, arith}
 use Rattle.gh_base.specs.Networks.{Network}
 use Rattle.walk_rules.specs.Walks.{AreTurned}
 use Rattle.walk_rules.specs.Distances.{in_grains, AreLabelsFrom, label_at}

@@ -1,5 +1,5 @@
 -- What is left of a list after its first.
-use Rattle.std.proofs.Common.{◌≡◌, ℕ, ◌<◌, List, [], ◌∷◌, ◌++◌, length, take, drop, slice_index_or, Contains, zero, suc, refl, sym, subst, ap, arith}
+use Rattle.std.proofs.Common.{◌≡◌, List, ◌∷◌, Contains, suc, refl, sym, subst, arith}
 
 pub contains_first : {A : Type 0} {xs rest : List A} {x : A} → xs ≡ x ∷ rest → Contains xs x
 contains_first {A} {xs} {rest} {x} e = subst (λ (ys : List A). Contains ys x) (sym e) (0, omega arith, refl)

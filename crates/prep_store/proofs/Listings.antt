@@ -13,7 +13,7 @@ use Rattle.landmark_prep.specs.Bounds.{labels_at}
 use Rattle.prep_store.specs.declared.item.Item.{Item}
 use Rattle.prep_store.specs.Stores.{Lists, list_text, lists_text}
 use Rattle.prep_store.specs.Ordering.{IsListText, IsBoth, IsPairText, AreTexts, IsGiven, IsCutOff, AreGivenSoFar}
-use Rattle.prep_store.specs.Writing.{IsNext, AreNext, IsListing, AreListings, AreAllListings}
+use Rattle.prep_store.specs.Writing.{IsNext, AreNext, IsListing, AreAllListings}
 use Rattle.prep_store.proofs.Candidates.{item_one}
 
 -- there is one next item
@@ -66,8 +66,10 @@ pub first_cut : {First Second : List ℕ → Type 0} {old new : Option (List ℕ
 first_cut {First} {Second} {old} {new} c = record { front = λ text s. subst (AppendsFront old new) (sym s.4) (front_wide old new s.0 s.1 (c.front s.0 s.2)) }
 
 pub second_cut : {First Second : List ℕ → Type 0} {old mid new : Option (List ℕ)} → IsOne First → IsGiven First old mid → IsCutOff Second mid new → IsCutOff (IsBoth First Second) old new
-second_cut {First} {Second} {old} {mid} {new} one a c = record { front = λ text s.
-    second_failed old mid new a.text [] s.1 text (sends_all old mid a.text a.given) (c.front s.1 s.3) (ap (λ (t : List ℕ). t ++ s.1) (one a.text s.0 a.so s.2) ∙ sym s.4) }
+second_cut {First} {Second} {old} {mid} {new} one a c = record {
+  front = λ text s.
+      second_failed old mid new a.text [] s.1 text (sends_all old mid a.text a.given) (c.front s.1 s.3) (ap (λ (t : List ℕ). t ++ s.1) (one a.text s.0 a.so s.2) ∙ sym s.4);
+}
 
 module _ (network back : Network) (grain : ℕ) (landmarks : List ℕ) (table : List Labels) where
   abbrev pub AreSoFar : ℕ → List ℕ → Type 0
@@ -121,9 +123,13 @@ texts_of network back grain [] [] (l ∷ lists) a = absurd a
 texts_of network back grain [] (t ∷ table) lists a = absurd a
 texts_of network back grain (n ∷ landmarks) [] lists a = absurd a
 texts_of network back grain (n ∷ landmarks) (t ∷ table) [] a = absurd a
-texts_of network back grain (n ∷ landmarks) (t ∷ table) (l ∷ lists) a =
-    (list_text l.from ++ list_text l.to, lists_text lists, (list_text l.from, list_text l.to, (l.from, a.0.from, refl), (l.to, a.0.to, refl), refl), texts_of network back grain landmarks table lists a.1,
-    sym (append_assoc (list_text l.from) (list_text l.to) (lists_text lists)))
+texts_of network back grain (n ∷ landmarks) (t ∷ table) (l ∷ lists) a = (
+  list_text l.from ++ list_text l.to,
+  lists_text lists,
+  (list_text l.from, list_text l.to, (l.from, a.0.from, refl), (l.to, a.0.to, refl), refl),
+  texts_of network back grain landmarks table lists a.1,
+  sym (append_assoc (list_text l.from) (list_text l.to) (lists_text lists)),
+)
 
 pub lists_of : (network back : Network) (grain : ℕ) (landmarks : List ℕ) (table : List Labels) (text : List ℕ) → AreTexts network back grain landmarks table text →
     (lists : List Lists) × AreAllListings network back grain landmarks table lists × (text ≡ lists_text lists)
@@ -134,6 +140,8 @@ lists_of network back grain (n ∷ landmarks) (t ∷ table) text a =
     let rest = lists_of network back grain landmarks table a.1 a.3 in
     let p = a.2 in
     let l : Lists = record { from = p.2.0; to = p.3.0 } in
-    let pair : a.0 ≡ list_text l.from ++ list_text l.to = p.4 ∙ (ap (λ (x : List ℕ). x ++ p.1) p.2.2 ∙ ap (λ (x : List ℕ). list_text l.from ++ x) p.3.2) in
-    (l ∷ rest.0, (record { from = p.2.1; to = p.3.1 }, rest.1),
-    a.4 ∙ (ap (λ (x : List ℕ). x ++ a.1) pair ∙ (ap (λ (x : List ℕ). (list_text l.from ++ list_text l.to) ++ x) rest.2 ∙ append_assoc (list_text l.from) (list_text l.to) (lists_text rest.0))))
+    let pair : a.0 ≡ list_text l.from ++ list_text l.to = p.4 ∙ (ap (λ (x : List ℕ). x ++ p.1) p.2.2 ∙ ap (λ (x : List ℕ). list_text l.from ++ x) p.3.2) in (
+      l ∷ rest.0,
+      (record { from = p.2.1; to = p.3.1 }, rest.1),
+      a.4 ∙ (ap (λ (x : List ℕ). x ++ a.1) pair ∙ (ap (λ (x : List ℕ). (list_text l.from ++ list_text l.to) ++ x) rest.2 ∙ append_assoc (list_text l.from) (list_text l.to) (lists_text rest.0))),
+    )

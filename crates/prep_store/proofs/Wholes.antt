@@ -14,8 +14,8 @@ use Rattle.landmark_prep.specs.Preparations.{Preparation, IsPlacing}
 use Rattle.landmark_prep.proofs.Prepared.{chosen_within}
 use Rattle.traffic_core.specs.Lands.{Land}
 use Rattle.prep_store.specs.declared.fault.PrepFault.{PrepFault}
-use Rattle.prep_store.specs.Stores.{words, head_text, Lists, roads_at, back_at, HasHead, HasLimits, HasLandmarks, AreEvidence, AreOfLists, IsStored}
-use Rattle.prep_store.specs.FirstFaults.{is_of_bytes, IsCut, Behind, FailsInHead, FailsInGrain, FailsInLists, IsFirstFault}
+use Rattle.prep_store.specs.Stores.{words, head_text, Lists, roads_at, back_at, HasLimits, HasLandmarks, AreEvidence, AreOfLists, IsStored}
+use Rattle.prep_store.specs.FirstFaults.{is_of_bytes, Behind, FailsInHead, FailsInGrain, FailsInLists, IsFirstFault}
 use Rattle.prep_store.specs.Readings.{Place, Takes, Fails}
 use Rattle.prep_store.specs.Steps.{IsBehindLimits, text_behind, FailsBehindLimits, IsLeft}
 use Rattle.prep_store.proofs.Telling.{consumed_more, taken_then, fails_as, fails_behind}

@@ -1,4 +1,4 @@
-use Rattle.std.proofs.Common.{◌≡◌, true, false, not, List, ℕ, ap, ◌∙◌, refl, inl, inr}
+use Rattle.std.proofs.Common.{◌≡◌, true, false, not, List, ℕ, ap, ◌∙◌, refl, inr}
 use lib.Pointwise.{pointwise}
 use lib.Dec.{eqb}
 use Rattle.prep_store.specs.declared.fault.PrepFault.TheVariants as faults

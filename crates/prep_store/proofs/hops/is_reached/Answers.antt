@@ -1,7 +1,7 @@
 use Rattle.std.proofs.Common.{ℕ, List, [], Option, Contains, sym, subst, ap, ◌∙◌, arith}
 use Rattle.gh_base.specs.declared.edges.Hop.{Hop}
 use Rattle.walk_rules.specs.Walks.{hops_from}
-use Rattle.prep_store.specs.Steps.{gives, gives_back, IsStillSought}
+use Rattle.prep_store.specs.Steps.{gives, IsStillSought}
 use Rattle.prep_store.proofs.Lefts.{contains_first}
 use Rattle.prep_store.proofs.Opens.{sought_none, sought_more}
 use Rattle.prep_store.proofs.hops.is_reached.Goals as goal

@@ -1,4 +1,4 @@
-use Rattle.std.proofs.Common.{List, Contains, None, sym, subst, ◌∙◌, arith}
+use Rattle.std.proofs.Common.{List, None, sym, subst, ◌∙◌, arith}
 use Rattle.gh_base.specs.declared.edges.Hop.{Hop}
 use Rattle.walk_rules.specs.Walks.{hops_from}
 use Rattle.prep_store.specs.Steps.{IsLeastSoFar}

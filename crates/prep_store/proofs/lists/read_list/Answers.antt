@@ -1,4 +1,4 @@
-use Rattle.std.proofs.Common.{◌++◌, ◌≡◌, ℕ, length, refl, sym, ap, subst, inl, inr, arith}
+use Rattle.std.proofs.Common.{◌++◌, ℕ, refl, sym, ap, inl, inr, arith}
 use Rattle.byteorder.specs.Endian.{big_bytes}
 use Rattle.prep_store.specs.declared.fault.PrepFault.TheVariants as faults
 use Rattle.prep_store.specs.Stores.{items_text}

@@ -1,4 +1,4 @@
-use Rattle.std.proofs.Common.{◌≡◌, ◌++◌, ◌∷◌, [], ℕ, List, length, take, slice_index_or, map, refl, sym, subst, ◌∙◌, arith}
+use Rattle.std.proofs.Common.{◌++◌, ◌∷◌, [], ℕ, List, take, slice_index_or, map, refl, sym, subst, ◌∙◌, arith}
 use Rattle.landmark_prep.specs.declared.labels.PackedLabels.{PackedLabels}
 use Rattle.landmark_prep.specs.Packing.{unpacked, AreLong}
 use Rattle.prep_store.specs.Evidence.{AreListed}

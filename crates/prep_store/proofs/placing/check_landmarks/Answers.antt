@@ -1,5 +1,5 @@
-use Rattle.std.specs.Prelude.{slice_get, IsTrue}
-use Rattle.std.proofs.Common.{◌≡◌, Some, ℕ, length, take, refl, sym, ap, ◌∙◌, arith}
+use Rattle.std.specs.Prelude.{slice_get}
+use Rattle.std.proofs.Common.{◌≡◌, Some, ℕ, take, refl, sym, ap, ◌∙◌, arith}
 use Rattle.std.proofs.lemmas.List.{length-map}
 use Rattle.gh_base.specs.declared.edges.NodeId.{NodeId}
 use Rattle.prep_store.specs.Stores.{words}

@@ -1,4 +1,4 @@
-use Rattle.std.proofs.Common.{◌<◌, ℕ, [], inl, inr, refl}
+use Rattle.std.proofs.Common.{[], inl, inr, refl}
 use Rattle.prep_store.specs.declared.fault.PrepFault.TheVariants as faults
 use Rattle.prep_store.proofs.Lookups.{no_some}
 use Rattle.prep_store.proofs.Telling.{fails_as, fails_at}

@@ -25,8 +25,13 @@ returns-in_err-snapshot-clause-first g c =
     let edges : c.edge_count.result ≡ length land.graph.edges = c.edge_count.ensures ∙ ap (λ (gr : Graph). length gr.edges) c.graph.ensures in
     first_fault land c.from_residual-in_err-snapshot.result c.from_residual-in_err-snapshot.ensures.1 refl
     (fails_behind {Outer = IsFirstOf land} head.text c.in_err-snapshot.ensures.fails (λ total bytes rest e f same.
-    inr (inl (profile, count, rest, record { bytes_are = e; there = head.there; word = head.word; some = head.some; few = head.few },
-    subst (λ (n : ℕ). IsCut (8 * n) (length bytes) rest fault) edges (subst (λ (n : ℕ). IsCut (8 * c.edge_count.result) n rest fault) same f)))))
+    inr (inl (
+      profile,
+      count,
+      rest,
+      record { bytes_are = e; there = head.there; word = head.word; some = head.some; few = head.few },
+      subst (λ (n : ℕ). IsCut (8 * n) (length bytes) rest fault) edges (subst (λ (n : ℕ). IsCut (8 * c.edge_count.result) n rest fault) same f),
+    ))))
 
 pub read_parts-requires-clause-small : goal.read_parts-requires-clause-small
 read_parts-requires-clause-small g c =

@@ -1,4 +1,4 @@
-use Rattle.std.proofs.Common.{◌≡◌, ◌<◌, ◌∙◌, sym, subst, ap}
+use Rattle.std.proofs.Common.{◌<◌, ◌∙◌, sym, subst, ap}
 use Rattle.std.proofs.lemmas.Result.{on_ok_weaker, on_err_weaker}
 use Rattle.gh_base.specs.Networks.{Network}
 use Rattle.weighting.specs.declared.weight_view.Side.TheVariants.{Out, Back}

@@ -1,4 +1,4 @@
-use Rattle.std.proofs.Common.{List, ℕ, subst, sym, refl, ◌∙◌}
+use Rattle.std.proofs.Common.{List, ℕ, subst, sym, refl}
 use Rattle.std.proofs.lemmas.Result.{on_ok_weaker, on_err_weaker}
 use Rattle.gh_base.specs.Causes.{AppendsFront}
 use Rattle.prep_store.specs.declared.item.Item.{Item}
@@ -23,5 +23,7 @@ returns-clause-err g c =
     let own : IsListing (g.V.RoadView.network c.args.view.now) prep.grain c.args.landmark.0 labels c.items.result.now =
     subst (λ (xs : List Item). IsListing (g.V.RoadView.network c.args.view.now) prep.grain c.args.landmark.0 labels xs) (sym c.items.ensures.items)
     (subst (λ (n : ℕ). IsListing (g.V.RoadView.network c.args.view.now) n c.args.landmark.0 labels c.in_ok-listing.listing.items) c.grain.ensures c.in_ok-listing.ensures.listing) in
-    on_err_weaker c.give_list.result (λ front. record { front = λ text so. subst (AppendsFront (g.K.Sink.held c.args.sink.now) (g.K.Sink.held c.give_list.new.sink))
-        (list_one (g.V.RoadView.network c.args.view.now) prep.grain c.args.landmark.0 labels (list_text c.items.result.now) text (c.items.result.now, own, refl) so) front }) c.give_list.ensures.err
+    on_err_weaker c.give_list.result (λ front. record {
+      front = λ text so. subst (AppendsFront (g.K.Sink.held c.args.sink.now) (g.K.Sink.held c.give_list.new.sink))
+          (list_one (g.V.RoadView.network c.args.view.now) prep.grain c.args.landmark.0 labels (list_text c.items.result.now) text (c.items.result.now, own, refl) so) front;
+    }) c.give_list.ensures.err
