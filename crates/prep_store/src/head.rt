@@ -1,5 +1,5 @@
 //! The head of a store, and the limits behind it.
-ghost use Rattle.std.specs.Prelude.{◌≡◌, ◌+◌, ◌*◌, ◌++◌, ◌<◌, ◌≤◌, ◌^◌, length, All, IfOk, IfErr, OnOk};
+ghost use Rattle.std.specs.Prelude.{◌≡◌, ◌*◌, ◌++◌, ◌<◌, ◌≤◌, ◌^◌, length, All, IfOk, IfErr, OnOk};
 ghost use Rattle.byteorder.specs.Endian.{big_bytes};
 ghost use Rattle.prep_store.specs.Stores.{magic, words, head_text};
 ghost use Rattle.prep_store.specs.FirstFaults.{IsCut, FailsInMagic, FailsInProfile, FailsInSizes, FailsInCount, FailsInHead};

@@ -1,5 +1,5 @@
 //! A list of items as it grows, with the label of each node at hand.
-ghost use Rattle.std.specs.Prelude.{◌≡◌, ◌↔◌, IsTrue, ◌+◌, ◌<◌, ◌++◌, ◌∷◌, [], None, ℕ, All, length, slice_index, IfOk, OnOk};
+ghost use Rattle.std.specs.Prelude.{◌≡◌, ◌↔◌, IsTrue, ◌<◌, ◌++◌, ◌∷◌, [], None, ℕ, All, length, slice_index, IfOk, OnOk};
 ghost use Rattle.prep_store.specs.Evidence.{label_in};
 ghost use Rattle.prep_store.specs.Steps.{IsItem, number_in};
 

@@ -1,13 +1,10 @@
 //! The lists of landmarks, which are read and checked to be evidence.
-ghost use Rattle.std.specs.Prelude.{◌≡◌, ◌↔◌, ◌+◌, ◌*◌, ◌++◌, ◌<◌, ◌≤◌, ◌^◌, ℕ, [], List, Some, None, IsTrue, length, map, IfOk, IfErr, OnOk, IfNone, IfSome, Contains, All};
-ghost use Rattle.std.specs.List.{AllZip};
-ghost use Rattle.byteorder.specs.Endian.{big_bytes};
+ghost use Rattle.std.specs.Prelude.{◌≡◌, ◌↔◌, ◌+◌, ◌++◌, ◌<◌, ◌≤◌, ◌^◌, [], List, None, IsTrue, length, map, IfOk, IfErr, OnOk, IfNone, IfSome, Contains, All};
 ghost use Rattle.gh_base.specs.Networks.{Network, LeadsToNodes};
 ghost use Rattle.walk_rules.specs.Walks.{AreTurned};
-ghost use Rattle.landmark_prep.specs.Packing.{AreLong, unpacked_labels};
 ghost use Rattle.prep_store.specs.declared.item.Item.{Item};
 ghost use Rattle.prep_store.specs.Evidence.{label_in, MayFollow, MayAllFollow, IsClosedAt, IsFirstOpen, IsEvidence};
-ghost use Rattle.prep_store.specs.Stores.{Lists, items_text, list_text, lists_text, AreEvidence, AreOfLists};
+ghost use Rattle.prep_store.specs.Stores.{Lists, items_text, list_text, lists_text, AreEvidence};
 ghost use Rattle.prep_store.specs.FirstFaults.{FailsInItems, FailsInList, FailsInPair, FailsInLists};
 ghost use Rattle.prep_store.specs.Steps.{IsItem, AreRead};
 ghost use Rattle.prep_store.specs.Readings.{place, Takes, Fails};

@@ -1,11 +1,10 @@
 //! Landmarks and grain, which are placed anew and compared.
-ghost use Rattle.std.specs.Prelude.{◌≡◌, ◌↔◌, ◌+◌, ◌*◌, ◌<◌, ◌≤◌, ◌^◌, Some, IsTrue, length, map, slice_get, ℕ, IfOk, IfErr, OnOk};
+ghost use Rattle.std.specs.Prelude.{◌≡◌, ◌↔◌, ◌<◌, ◌≤◌, ◌^◌, Some, IsTrue, length, map, slice_get, ℕ, IfOk, IfErr, OnOk};
 ghost use Rattle.byteorder.specs.Endian.{big_bytes};
-ghost use Rattle.gh_base.specs.Causes.{Rose};
 ghost use Rattle.walk_rules.specs.Walks.{AreTurned};
 ghost use Rattle.landmark_prep.specs.Preparations.{IsPlacing};
 ghost use Rattle.prep_store.specs.Stores.{words};
-ghost use Rattle.prep_store.specs.FirstFaults.{IsCut, FailsByRule, FailsInLandmarks, FailsInGrain};
+ghost use Rattle.prep_store.specs.FirstFaults.{FailsByRule, FailsInLandmarks, FailsInGrain};
 ghost use Rattle.prep_store.specs.Readings.{place, Takes, Fails};
 
 use crate::fault::PrepFault;
