@@ -1,5 +1,5 @@
 -- What all actors were told, joined.
-use Rattle.std.proofs.Common.{◌≡◌, ℕ, zero, suc, ◌+◌, ◌<◌, ◌≤◌, ◌≢◌, true, false, inl, inr, eq-eqb, ne_eqb, List, [], ◌∷◌, ◌++◌, length, get_or, take, eqb, sym, ap, subst, refl, ◌∙◌, arith, append-nil, take-suc, add-one, All, map}
+use Rattle.std.proofs.Common.{◌≡◌, ℕ, zero, suc, ◌+◌, ◌<◌, ◌≤◌, ◌≢◌, true, false, inl, inr, eq-eqb, ne_eqb, List, [], ◌∷◌, ◌++◌, length, get_or, take, eqb, sym, ap, subst, refl, ◌∙◌, arith, append-nil, take-suc, All, map}
 use Rattle.std.proofs.lemmas.Grind.{flat_map-append}
 use Rattle.std.proofs.lemmas.Bool.{eqb-true, cases_lt}
 use Rattle.std.proofs.lemmas.List.{map-append, take_all}
@@ -19,13 +19,10 @@ use Rattle.script_service.proofs.CommandMore.{goes_none, goes_later, starts_len}
 use Rattle.script_service.proofs.CountedEntries.{fills_counted}
 use Rattle.script_service.proofs.ActorOrder.{by_actor-suc}
 
-pub parts-suc : (phase : List Line) (actors : List Acting) (i : ℕ) (d : Acting) → i < length actors → parts_in phase (take (suc i) actors) ≡ parts_in phase (take i actors) ++ part_in phase (get_or actors i d)
+parts-suc : (phase : List Line) (actors : List Acting) (i : ℕ) (d : Acting) → i < length actors → parts_in phase (take (suc i) actors) ≡ parts_in phase (take i actors) ++ part_in phase (get_or actors i d)
 parts-suc phase actors i d below =
     ap (parts_in phase) (take-suc actors i d below) ∙ flat_map-append (part_in phase) (take i actors) (get_or actors i d ∷ []) ∙
     ap (λ (l : List Answered). parts_in phase (take i actors) ++ l) (append-nil (part_in phase (get_or actors i d)))
-
-pub parts-more : (phase : List Line) (actors : List Acting) (i : ℕ) (d : Acting) → i < length actors → parts_in phase (take (i + 1) actors) ≡ parts_in phase (take i actors) ++ part_in phase (get_or actors i d)
-parts-more phase actors i d below = rw add-one (parts-suc phase actors i d below)
 
 -- the lines of other actors
 lines_below : (i : ℕ) (phase : List Line) → All (λ (line : Line). line.actor < i) (by_actor i phase)
@@ -95,7 +92,8 @@ same_part taught phase after last told = ap (map (heard_in phase)) told.part
 pub order_of : (land : Land) (service taught : Place) (phase : List Line) (i : ℕ) (before after last : Acting) → IsSeated service i before → HasRun land phase before after → IsTaught taught after last → last.failed ≡ false →
     lines (part_in phase last) ≡ lines_of i phase
 order_of land service taught phase i before after last seated run told done =
-    ap lines (same_part taught phase after last told) ∙ run.done (sym told.failed ∙ done) ∙ ap (λ (n : ℕ). lines_of n phase) seated.actor
+    ap lines (same_part taught phase after last told) ∙ run.order (sym told.failed ∙ done) ∙ ap (lines_of before.seat.actor) (take_all (length phase) phase (omega arith)) ∙
+    ap (λ (n : ℕ). lines_of n phase) seated.actor
 
 -- over one list
 acts_of : (land : Land) (past : List Answered) (service : Place) (phase : List Line) (i : ℕ) (before after : Acting) → All (λ (a : Answered). a.at ≤ length service.entries) past →
@@ -106,20 +104,20 @@ acts_of land past service phase i before after within knows seated run done =
     run.acts done past (record { within = here; knows = subst (λ (l : List Entry). Knows land l (own_of before.seat.actor past) before.knows) (sym seated.entries) mine })
 
 pub done_of : (land : Land) (past : List Answered) (service taught : Place) (phase : List Line) (i : ℕ) (before after last : Acting) → All (λ (a : Answered). a.at ≤ length service.entries) past →
-    Knows land service.entries (own_of i past) before.knows → IsSeated service i before → HasRun land phase before after → StartsWith taught.entries after.seat.entries →
+    Knows land service.entries (own_of i past) before.knows → IsSeated service i before → HasRun land phase before after →
     IsTaught taught after last → last.failed ≡ false → HasDone land (length service.cells) past (length service.entries) taught.entries phase i last
-done_of land past service taught phase i before after last within knows seated run starts told done =
+done_of land past service taught phase i before after last within knows seated run told done =
     let acts = acts_of land past service phase i before after within knows seated run (sym told.failed ∙ done) in
     let part : List Answered = part_in phase after in
-    let grew = starts_len before.seat.entries after.seat.entries run.starts in
+    let grew = starts_len before.seat.entries after.seat.entries run.still.starts in
     let long = ap length seated.entries in
     let later : All (λ (a : Answered). a.at ≤ length after.seat.entries) past = λ k d h. let was = within k d h in omega arith in
     let all = All-append (λ (a : Answered). a.at ≤ length after.seat.entries) past part later acts.goes.within in
     let own = All-filter (λ (b : Answered). eqb b.line.actor before.seat.actor) (λ (a : Answered). a.at ≤ length after.seat.entries) (past ++ part) all in
-    let goes = goes_later land (length before.seat.cells) past (length before.seat.entries) after.seat.entries taught.entries part starts later acts.goes in
+    let goes = goes_later land (length before.seat.cells) past (length before.seat.entries) after.seat.entries taught.entries part told.starts later acts.goes in
     let of_cells = subst (λ (l : List ℕ). Goes land (length l) past (length before.seat.entries) taught.entries part) seated.cells goes in
     let of_list = subst (λ (l : List Entry). Goes land (length service.cells) past (length l) taught.entries part) seated.entries of_cells in
-    let known = knows_later land after.seat.entries taught.entries (own_of before.seat.actor (past ++ part)) after.knows starts own acts.knows in
+    let known = knows_later land after.seat.entries taught.entries (own_of before.seat.actor (past ++ part)) after.knows told.starts own acts.knows in
     let of_actor = subst (λ (n : ℕ). Knows land taught.entries (own_of n (past ++ part)) after.knows) seated.actor known in
     let same = sym (same_part taught phase after last told) in
     record {

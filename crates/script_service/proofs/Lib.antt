@@ -25,4 +25,5 @@ pub mod SeatedActors
 pub mod JournalLines
 pub mod SentActors
 pub mod PhaseReady
+pub mod PhaseRun
 pub mod ToldReplies

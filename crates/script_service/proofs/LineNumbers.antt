@@ -79,7 +79,7 @@ awaits_here phases i phase a below is awaits =
     all_left P phase (lines_of (drop (i + 1) phases)) (subst (All P) (lines_at phases i phase below is) awaits)
 
 pub awaits_next : (phases : List (List Line)) (i : ℕ) (phase : List Line) (before after : Acting) → i < length phases → get_or phases i [] ≡ phase → AreNumbered (lines_of phases) →
-    Awaits (lines_of (drop i phases)) before → StaysBelow phase before after → after.seat.actor ≡ before.seat.actor → Awaits (lines_of (drop (i + 1) phases)) after
+    Awaits (lines_of (drop i phases)) before → StaysBelow phase (length phase) before after → after.seat.actor ≡ before.seat.actor → Awaits (lines_of (drop (i + 1) phases)) after
 awaits_next phases i phase before after below is numbered awaits stays same k d h mine =
     let P : Line → Type 0 = λ line. line.actor ≡ before.seat.actor → before.seat.last < line.number in
     let rest : List Line = lines_of (drop (i + 1) phases) in

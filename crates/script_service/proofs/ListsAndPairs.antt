@@ -1,7 +1,5 @@
 -- What holds of all of a list, and of all pairs.
-use Rattle.std.proofs.Common.{◌≡◌, ℕ, zero, suc, ◌+◌, List, [], ◌∷◌, ◌++◌, length, get_or, subst, All, AllPairs, Contains, Some, take, drop, take-append-drop, ap, ◌∙◌, arith, length-append, slice_get, sym, append-nil}
-use Rattle.traffic_core.specs.declared.entry.Entry.{Entry}
-use Rattle.traffic_share.specs.Seats.{StartsWith}
+use Rattle.std.proofs.Common.{◌≡◌, ℕ, zero, suc, ◌+◌, List, [], ◌∷◌, ◌++◌, length, get_or, subst, All, AllPairs, Contains, Some, take, drop, take-append-drop, ap, ◌∙◌, arith, length-append, slice_get, sym}
 use Rattle.std.specs.List.{flat_map}
 use Rattle.std.proofs.lemmas.List.{get_or_append_left, get_or-append-add, drop_more}
 use Rattle.std.proofs.lemmas.List.Elements.{All-append, All-cons, All-head, All-tail, All-nil}
@@ -12,9 +10,6 @@ all_left P xs ys all = λ k d h. subst P (get_or_append_left xs ys d k h) (all k
 
 pub all_right : {X : Type 0} (P : X → Type 0) (xs ys : List X) → All P (xs ++ ys) → All P ys
 all_right P xs ys all = λ k d h. subst P (get_or-append-add xs ys k d) (all (length xs + k) d (omega (arith, length-append xs ys)))
-
-pub all_one : {X : Type 0} (P : X → Type 0) (x : X) → P x → All P (x ∷ [])
-all_one P x here = All-cons P x [] here (All-nil P)
 
 -- of all of the joined lists, so of all of each
 pub all_joined : {X : Type 0} (P : X → Type 0) (xss : List (List X)) → All P (flat_map (λ (xs : List X). xs) xss) → All (All P) xss
@@ -35,9 +30,6 @@ pub slice_get_append : {X : Type 0} (xs ys : List X) (k : ℕ) (x : X) → slice
 slice_get_append [] ys k x is = absurd cc
 slice_get_append (y ∷ xs) ys zero x is = is
 slice_get_append (y ∷ xs) ys (suc k) x is = slice_get_append xs ys k x is
-
-pub starts_self : (xs : List Entry) → StartsWith xs xs
-starts_self xs = record { rest = []; is = sym (append-nil xs) }
 
 -- of all of each list, so of all of the joined
 pub joined_all : {X : Type 0} (P : X → Type 0) (xss : List (List X)) → All (All P) xss → All P (flat_map (λ (xs : List X). xs) xss)

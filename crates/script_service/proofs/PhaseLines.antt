@@ -7,8 +7,7 @@ use Rattle.script_text.specs.declared.script.Line.{Line}
 use Rattle.script_text.specs.Replies.{reply_line}
 use Rattle.script_service.specs.declared.actor.Heard.{Heard}
 use Rattle.script_service.specs.Writing.{line_text, lines_text}
-use Rattle.script_service.specs.Actors.{Acting, heard_in, line_at, part_in, parts_in}
-use Rattle.script_service.proofs.JoinedParts.{parts-more}
+use Rattle.script_service.specs.Actors.{heard_in, line_at}
 
 lines_more : (names : List (List ℕ)) (phase : List Line) (part : List Heard) (i : ℕ) (heard : Heard) → i < length part →
     lines_text names (map (heard_in phase) (take (i + 1) part)) ≡ lines_text names (map (heard_in phase) (take i part)) ++ line_text names (heard_in phase (get_or part i heard))
@@ -38,14 +37,3 @@ line_more names phase part i heard line name old text new below heard_is all lin
     append_assoc old before (reply_line name line.number heard.told.at heard.told.reply) ∙
     ap (λ (l : List ℕ). old ++ (before ++ l)) (own ∙ ap (λ (h : Heard). line_text names (heard_in phase h)) heard_is) ∙
     ap (λ (l : List ℕ). old ++ l) (sym (lines_more names phase part i heard below))
-
--- one actor more
-pub part_more : (names : List (List ℕ)) (phase : List Line) (actors : List Acting) (i : ℕ) (a : Acting) (text new : List ℕ) →
-    i < length actors → a ≡ get_or actors i a →
-    text ≡ lines_text names (parts_in phase (take i actors)) → new ≡ text ++ lines_text names (map (heard_in phase) a.part) →
-    new ≡ lines_text names (parts_in phase (take (i + 1) actors))
-part_more names phase actors i a text new below is so_far more =
-    more ∙ ap (λ (l : List ℕ). l ++ lines_text names (part_in phase a)) so_far ∙
-    ap (λ (b : Acting). lines_text names (parts_in phase (take i actors)) ++ lines_text names (part_in phase b)) is ∙
-    sym (flat_map-append (line_text names) (parts_in phase (take i actors)) (part_in phase (get_or actors i a))) ∙
-    ap (lines_text names) (sym (parts-more phase actors i a below))

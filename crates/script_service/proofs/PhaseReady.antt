@@ -3,15 +3,12 @@ use Rattle.std.proofs.Common.{◌≡◌, ◌∙◌, ℕ, ◌+◌, ◌<◌, ◌�
 use Rattle.std.specs.Prelude.{slice_get}
 use Rattle.std.proofs.lemmas.Option.{get_or_from_slice_get}
 use Rattle.weighting.specs.declared.profile.Profile.{Profile}
-use Rattle.traffic_core.specs.Lands.{Land}
 use Rattle.script_text.specs.declared.script.Line.{Line}
 use Rattle.script_text.specs.declared.script.Script.{Script}
 use Rattle.script_text.specs.Scripts.{IsScript, lines_of}
 use Rattle.traffic_share.specs.Seats.{Place}
-use Rattle.script_service.specs.Answering.{lines}
-use Rattle.script_service.specs.Fitting.{by_actor}
-use Rattle.script_service.specs.Actors.{Acting, AreSeated, Awaits, CanBeAsked, Continues, StaysBelow, parts_in}
-use Rattle.script_service.specs.Underway.{AreReady, HasPhase}
+use Rattle.script_service.specs.Actors.{Acting, AreSeated, Awaits, CanBeAsked, StaysBelow}
+use Rattle.script_service.specs.Underway.{AreReady}
 use Rattle.script_service.proofs.LineNumbers.{asked_here, awaits_first, awaits_here, awaits_next}
 
 -- the phase that a script gives
@@ -41,7 +38,7 @@ asked_now profiles script i names phase is below here count =
 -- behind it
 pub ready_next : (profiles : List Profile) (script : Script) (i : ℕ) (phase : List Line) (service later : Place) (actors after : List Acting) → IsScript profiles script → i < length script.phases →
     get_or script.phases i [] ≡ phase → AreReady script i service actors → later.cells ≡ service.cells → length after ≡ length actors → AreSeated later after →
-    ((k : ℕ) (d : Acting) → k < length actors → StaysBelow phase (get_or actors k d) (get_or after k d)) → AreReady script (i + 1) later after
+    ((k : ℕ) (d : Acting) → k < length actors → StaysBelow phase (length phase) (get_or actors k d) (get_or after k d)) → AreReady script (i + 1) later after
 ready_next profiles script i phase service later actors after is below here ready cells len seated stays = record {
   cells = ap length cells ∙ ready.cells;
   len = len ∙ ready.len;
@@ -51,14 +48,3 @@ ready_next profiles script i phase service later actors after is below here read
       let same = (seated k d h).actor ∙ sym (ready.seated k d was).actor in
       awaits_next script.phases i phase (get_or actors k d) (get_or after k d) below here is.lines.numbered (ready.awaits k d was) (stays k d was) same;
 }
-
-pub has_phase : (land : Land) (script : Script) (i : ℕ) (phase : List Line) (service later : Place) (actors after : List Acting) → get_or script.phases i [] ≡ phase →
-    AreReady script i service actors → later.cells ≡ service.cells → length later.entries ≤ length later.cells → lines (parts_in phase after) ≡ by_actor (length actors) phase →
-    Continues land (length service.cells) service.entries actors later.entries after (parts_in phase after) → HasPhase land script i service.entries later.entries actors after
-has_phase land script i phase service later actors after here ready cells room order serves =
-    let at_capacity = subst (λ (n : ℕ). Continues land n service.entries actors later.entries after (parts_in phase after)) ready.cells serves in
-    record {
-      order = subst (λ (p : List Line). lines (parts_in p after) ≡ by_actor (length actors) p) (sym here) order;
-      serves = subst (λ (p : List Line). Continues land script.capacity service.entries actors later.entries after (parts_in p after)) (sym here) at_capacity;
-      room = omega (arith, room, ap length cells, ready.cells);
-    }

@@ -26,7 +26,7 @@ use Rattle.script_service.specs.declared.told.Told.{Told}
 use Rattle.script_service.specs.Answering.{is_accepted}
 use Rattle.script_service.specs.Replying.{IsEntry, SaysLower, SaysRestore, SaysPublish}
 use Rattle.script_service.specs.Telling.{answered}
-use Rattle.script_service.specs.SeatReplies.{told_of_lower, told_of_restore, told_of_publish}
+use Rattle.script_service.specs.SeatReplies.{IsSeatAfter, told_of_lower, told_of_restore, told_of_publish}
 
 -- the reply speaks of the whole list, which begins with the old one, and is longer where it has an entry of its own
 pub record Speaks (xs ys : List Entry) (told : Told) : Type 0 where
@@ -39,6 +39,14 @@ starts_grew mine xs ys grew = record { rest = grew.rest; is = grew.is }
 
 pub starts_same : (xs : List Entry) → StartsWith xs xs
 starts_same xs = record { rest = []; is = sym (append-nil xs) }
+
+-- a seat that was left as it is, and one behind a command of its own
+pub seat_stays : (number : ℕ) (seat : Place) → seat.last < number → IsSeatAfter number seat seat
+seat_stays number seat more = record { cells = refl; actor = refl; last = omega arith; starts = starts_same seat.entries }
+
+pub seat_after : (number : ℕ) (before after : Place) → after.cells ≡ before.cells → after.actor ≡ before.actor → after.last ≡ number → StartsWith after.entries before.entries →
+    IsSeatAfter number before after
+seat_after number before after cells actor last starts = record { cells = cells; actor = actor; last = omega arith; starts = starts }
 
 -- the list as a reply sees it that speaks of all of it
 pub all_seen : (ys : List Entry) (at : ℕ) → at ≡ length ys → take at ys ≡ ys

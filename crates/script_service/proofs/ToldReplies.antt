@@ -1,6 +1,6 @@
 -- The replies that actors hand over, phase by phase.
-use Rattle.std.proofs.Common.{◌≡◌, ◌∙◌, ℕ, ◌+◌, ◌<◌, List, [], ◌∷◌, ◌++◌, length, get_or, map, drop, take, None, All, arith, ap, sym, subst, refl}
-use Rattle.std.proofs.lemmas.List.{flat_map_more, map-append, take_more}
+use Rattle.std.proofs.Common.{◌≡◌, ◌∙◌, ℕ, ◌+◌, ◌<◌, List, [], ◌∷◌, ◌++◌, length, get_or, map, drop, All, arith, ap, sym, subst, refl}
+use Rattle.std.proofs.lemmas.List.{map-append}
 use Rattle.traffic_core.specs.declared.entry.Entry.{Entry}
 use Rattle.traffic_core.specs.Lands.{Land}
 use Rattle.traffic_share.specs.Seats.{Place}
@@ -14,16 +14,9 @@ use Rattle.script_service.specs.Actors.{Acting, Know, heard_in, part_in, parts_i
 use Rattle.script_service.specs.Collecting.{HasCollected, HasHanded, heard_by, replies, replies_heard}
 use Rattle.script_service.specs.Going.{Knowing, Knows}
 use Rattle.script_service.specs.Answering.{own_of}
-use Rattle.script_service.specs.Underway.{AreReady, HasPhase, IsUnderway, phase_of}
+use Rattle.script_service.specs.Underway.{AreReady, HasPhase, phase_of}
 use Rattle.script_service.proofs.PhaseMore.{begins_none, joined_more}
 use Rattle.script_service.proofs.PhaseServed.{is_served}
-
--- one actor more
-pub heard_more : (actors : List Acting) (i : ℕ) (here : Acting) (old mid new : List Heard) → i < length actors → get_or actors i here ≡ here →
-    mid ≡ old ++ heard_by (take i actors) → new ≡ mid ++ here.part → new ≡ old ++ heard_by (take (i + 1) actors)
-heard_more actors i here old mid new below is first second =
-    let front : take i actors ++ here ∷ [] ≡ take (i + 1) actors = sym (take_more actors i here below ∙ ap (λ (a : Acting). take i actors ++ a ∷ []) is) in
-    second ∙ ap (λ (l : List Heard). l ++ here.part) first ∙ flat_map_more (λ (a : Acting). a.part) old (take i actors) here ∙ ap (λ (l : List Acting). old ++ heard_by l) front
 
 pub ready_handed : (script : Script) (count : ℕ) (service : Place) (before after : List Acting) → AreReady script count service before → HasHanded before after → AreReady script count service after
 ready_handed script count service before after ready handed = record {
@@ -72,18 +65,17 @@ collected_none land script journal actors none knows =
     })
 
 -- a phase more
-pub collected_more : (land : Land) (script : Script) (i : ℕ) (xs ys : List Entry) (before mid after : List Acting) (heard more : List Heard) → HasCollected land script xs before i heard →
-    length before ≡ length script.actors → i < length script.phases → HasPhase land script i xs ys before mid → HasHanded mid after → more ≡ heard ++ heard_by mid →
-    HasCollected land script ys after (i + 1) more
-collected_more land script i xs ys before mid after heard more collected count below phase handed is =
+pub collected_more : (land : Land) (script : Script) (i : ℕ) (service later : Place) (before mid after : List Acting) (heard more : List Heard) → HasCollected land script service.entries before i heard →
+    AreReady script i service before → i < length script.phases → HasPhase land script i service later before mid → HasHanded mid after → more ≡ heard ++ heard_by mid →
+    HasCollected land script later.entries after (i + 1) more
+collected_more land script i service later before mid after heard more collected ready below phase handed is =
     let part : List Answered = parts_in (phase_of script i) mid in
-    let underway : IsUnderway land script xs before i None None = record { phases = collected.phases; begins = collected.begins; knows = collected.knows; written = tt } in
-    let served = is_served land script (phase_of script i) part i script.capacity xs ys before mid None None underway refl count below refl phase.order phase.serves phase.room in
+    let served = is_served land script i service later before mid ready below phase collected.phases collected.begins collected.knows in
     let joint = joined_more collected.phases part in
     record {
       phases = collected.phases ++ part ∷ [];
       begins = served.begins;
-      knows = subst (λ (l : List Answered). Know land ys l after) (sym joint) (knows_handed land ys (joined collected.phases ++ part) mid after served.knows handed);
+      knows = subst (λ (l : List Answered). Know land later.entries l after) (sym joint) (knows_handed land later.entries (joined collected.phases ++ part) mid after served.knows handed);
       replies_are =
           ap replies_heard is ∙ map-append (λ (h : Heard). h.told.reply) heard (heard_by mid)
           ∙ ap (λ (l : List Reply). l ++ replies_heard (heard_by mid)) collected.replies_are

@@ -1,5 +1,5 @@
 -- Actors with seats at one log.
-use Rattle.std.specs.Prelude.{◌≡◌, ℕ, ◌+◌, ◌<◌, ◌≤◌, false, Bool, List, [], ◌∷◌, ◌++◌, All, AllPairs, filter, length, map, slice_index_or}
+use Rattle.std.specs.Prelude.{◌≡◌, ℕ, ◌+◌, ◌<◌, ◌≤◌, false, Bool, List, [], ◌∷◌, ◌++◌, All, AllPairs, filter, length, map, slice_index_or, take}
 use Rattle.std.specs.List.{flat_map}
 use Rattle.traffic_core.specs.declared.entry.Entry.{Entry}
 use Rattle.traffic_core.specs.Lands.{Land}
@@ -58,6 +58,7 @@ pub record HasAnswered (land : Land) (phase : List Line) (place : ℕ) (before a
   pub heard : Heard
   pub place_is : heard.place ≡ place
   pub part : after.part ≡ before.part ++ heard ∷ []
+  pub last : after.seat.last ≤ (line_at phase place).number
   pub follows : Follows land (length before.seat.cells) before.knows after.knows before.seat.entries after.seat.entries (line_at phase place) (heard_in phase heard)
 
 -- an actor's replies behind `past`, and what it knows then
@@ -74,20 +75,35 @@ pub record IsPastOf (land : Land) (past : List Answered) (a : Acting) : Type 0 w
 abbrev pub Awaits : List Line → Acting → Type 0
 Awaits phase a = All (λ (line : Line). line.actor ≡ a.seat.actor → a.seat.last < line.number) phase
 
--- a line that stands behind the phase has a greater number than the seat was given
-abbrev pub StaysBelow : List Line → Acting → Acting → Type 0
-StaysBelow phase before after =
-    (line : Line) → line.actor ≡ before.seat.actor → before.seat.last < line.number → All (λ (m : Line). Grows m line) phase → after.seat.last < line.number
+-- a line that stands behind the first lines of a phase has a greater number than the seat was given
+abbrev pub StaysBelow : List Line → ℕ → Acting → Acting → Type 0
+StaysBelow phase count before after =
+    (line : Line) → line.actor ≡ before.seat.actor → before.seat.last < line.number → ((k : ℕ) (d : Line) → k < count → Grows (slice_index_or phase k d) line) → after.seat.last < line.number
 
--- the actor has run its commands of a phase, if its memory was enough
-pub record HasRun (land : Land) (phase : List Line) (before after : Acting) : Type 0 where
+-- the actor sits where it sat, its list begins with what it was, and what it was told is of lines of the phase
+pub record IsStill (phase : List Line) (before after : Acting) : Type 0 where
   pub cells : after.seat.cells ≡ before.seat.cells
   pub actor : after.seat.actor ≡ before.seat.actor
   pub starts : StartsWith after.seat.entries before.seat.entries
-  pub acts : after.failed ≡ false → (past : List Answered) → IsPastOf land past before → Acts land phase past before after
-  pub stays : after.failed ≡ false → StaysBelow phase before after
-  pub done : after.failed ≡ false → lines (part_in phase after) ≡ lines_of before.seat.actor phase
   pub there : All (λ (h : Heard). h.place < length phase) after.part
+
+-- the line at a place is answered, if it is the actor's
+pub record HasPassed (land : Land) (phase : List Line) (place : ℕ) (before after : Acting) : Type 0 where
+  pub own : (line_at phase place).actor ≡ before.seat.actor → HasAnswered land phase place before after
+  pub other : ((line_at phase place).actor ≡ before.seat.actor → ⊥) → after ≡ before
+
+-- its commands among the first lines of a phase are answered
+pub record HasRunFirst (land : Land) (phase : List Line) (count : ℕ) (before after : Acting) : Type 0 where
+  pub stays : StaysBelow phase count before after
+  pub acts : (past : List Answered) → IsPastOf land past before → Acts land phase past before after
+  pub order : lines (part_in phase after) ≡ lines_of before.seat.actor (take count phase)
+
+-- the actor has run its commands of a phase, if its memory was enough
+pub record HasRun (land : Land) (phase : List Line) (before after : Acting) : Type 0 where
+  pub still : IsStill phase before after
+  pub stays : after.failed ≡ false → StaysBelow phase (length phase) before after
+  pub acts : after.failed ≡ false → (past : List Answered) → IsPastOf land past before → Acts land phase past before after
+  pub order : after.failed ≡ false → lines (part_in phase after) ≡ lines_of before.seat.actor (take (length phase) phase)
 
 -- each actor sits at the service's log under its number, with its list
 pub record IsSeated (service : Place) (i : ℕ) (a : Acting) : Type 0 where
@@ -98,8 +114,9 @@ pub record IsSeated (service : Place) (i : ℕ) (a : Acting) : Type 0 where
 abbrev pub AreSeated : Place → List Acting → Type 0
 AreSeated service actors = (i : ℕ) (d : Acting) → i < length actors → IsSeated service i (slice_index_or actors i d)
 
--- the actor is as it was, with the whole list
+-- the actor is as it was, with the whole list, which begins with what it had
 pub record IsTaught (service : Place) (before after : Acting) : Type 0 where
+  pub starts : StartsWith service.entries before.seat.entries
   pub cells : after.seat.cells ≡ before.seat.cells
   pub actor : after.seat.actor ≡ before.seat.actor
   pub last : after.seat.last ≡ before.seat.last

@@ -1,11 +1,10 @@
 //! An actor: its seat, what it knows, and what it was told in a phase.
-ghost use Rattle.std.specs.Prelude.{◌≡◌, ◌++◌, [], List, length, IfOk, OnOk, OnErr, All, AllPairs, false, ◌<◌, ◌≤◌};
+ghost use Rattle.std.specs.Prelude.{◌≡◌, ◌++◌, [], length, IfOk, OnOk, All, ◌<◌};
 ghost use Rattle.script_text.specs.Scripts.{IsCommand};
-ghost use Rattle.script_service.specs.Answering.{Answered, is_accepted, lines};
-ghost use Rattle.script_service.specs.Fitting.{lines_of};
+ghost use Rattle.script_service.specs.Answering.{is_accepted};
 ghost use Rattle.traffic_share.specs.Seats.{HasSameSeat, StartsWith};
 ghost use Rattle.script_service.specs.Collecting.{HasHandedOver};
-ghost use Rattle.script_service.specs.Actors.{Acts, Awaits, CanBeAsked, HasAnswered, HasRun, IsPastOf, IsTaught, StaysBelow, accepted_of, line_at, part_in};
+ghost use Rattle.script_service.specs.Actors.{Awaits, CanBeAsked, HasPassed, HasRun, HasRunFirst, IsStill, IsTaught, accepted_of, line_at};
 
 use crate::answering::answer;
 use crate::memory::Memory;
@@ -148,24 +147,17 @@ impl<'l, 'g, J: Naming> Actor<'l, 'g, J> {
         requires empty { self.old.part ≡ [] }
         requires awaits { Awaits phase.now self.old }
         requires asked { CanBeAsked (length J.land.profiles) actors phase.now }
-        ensures stays { IfOk result (λ _. StaysBelow phase.now self.old self.new) }
-        ensures cells { self.new.seat.cells ≡ self.old.seat.cells }
-        ensures actor { self.new.seat.actor ≡ self.old.seat.actor }
-        ensures starts { StartsWith self.new.seat.entries self.old.seat.entries }
-        ensures acts { IfOk result (λ _. (past : List Answered) → IsPastOf J.land past self.old → Acts J.land phase.now past self.old self.new) }
-        ensures order { IfOk result (λ _. lines (part_in phase.now self.new) ≡ lines_of self.old.seat.actor phase.now) }
-        ensures there { All (λ heard. heard.place < length phase.now) self.new.part }
+        ensures still { IsStill phase.now self.old self.new }
+        ensures whole { IfOk result (λ _. HasRunFirst J.land phase.now (length phase.now) self.old self.new) }
     {
         for place in 0..phase.len() {
-            if phase[place].actor == self.seat.actor() {
-                self.answer_one(rt, alloc, phase, place, gate)?;
-            }
+            self.pass(rt, alloc, phase, place, gate)?;
         }
         Ok(())
     }
 
-    /// Answers its command at a place of a phase.
-    fn answer_one<R: Threads + Sync, G: Gate>(
+    /// Answers the line at a place of a phase, if it is its own.
+    fn pass<R: Threads + Sync, G: Gate>(
         &mut self,
         rt: &R,
         alloc: Global,
@@ -174,17 +166,16 @@ impl<'l, 'g, J: Naming> Actor<'l, 'g, J> {
         gate: &G,
     ) -> Result<(), NoMemory>
         requires there { place < length phase.now }
-        requires own { (line_at phase.now place).actor ≡ self.old.seat.actor }
-        requires more { self.old.seat.last < (line_at phase.now place).number }
+        requires heard { All (λ heard. heard.place < length phase.now) self.old.part }
+        requires more { (line_at phase.now place).actor ≡ self.old.seat.actor → self.old.seat.last < (line_at phase.now place).number }
         requires asked { IsCommand (length J.land.profiles) (line_at phase.now place).command }
-        ensures cells { self.new.seat.cells ≡ self.old.seat.cells }
-        ensures actor { self.new.seat.actor ≡ self.old.seat.actor }
-        ensures last { self.new.seat.last ≤ (line_at phase.now place).number }
-        ensures starts { StartsWith self.new.seat.entries self.old.seat.entries }
-        ensures answered { IfOk result (λ _. HasAnswered J.land phase.now place self.old self.new) }
-        ensures kept { OnErr result (self.new.part ≡ self.old.part) }
+        ensures still { IsStill phase.now self.old self.new }
+        ensures passed { IfOk result (λ _. HasPassed J.land phase.now place self.old self.new) }
     {
         let line = &phase[place];
+        if line.actor != self.seat.actor() {
+            return Ok(());
+        }
         gate.before(line.actor, line.number);
         self.seat.catch_up();
         let told = answer(rt, alloc, &mut self.seat, &mut self.memory, line)?;

@@ -1,9 +1,8 @@
 //! The answer to one command of an actor.
-ghost use Rattle.std.specs.Prelude.{◌≡◌, ◌<◌, ◌≤◌, length, IfOk};
+ghost use Rattle.std.specs.Prelude.{◌≡◌, ◌<◌, length, IfOk};
 ghost use Rattle.script_text.specs.Scripts.{IsCommand};
 ghost use Rattle.gh_base.specs.Places.{IsPlace};
 ghost use Rattle.route_sessions.specs.Sessions.{IsInForce};
-ghost use Rattle.traffic_share.specs.Seats.{StartsWith};
 ghost use Rattle.script_service.specs.Replying.{IsRightQuery, asks_under};
 ghost use Rattle.script_service.specs.SeatReplies.{Answers, IsSeatAfter};
 
@@ -133,10 +132,7 @@ pub fn answer<J: Naming, R: Threads + Sync>(
     requires own { line.now.actor ≡ seat.old.actor }
     requires more { seat.old.last < line.now.number }
     requires command { IsCommand (length J.land.profiles) line.now.command }
-    ensures cells { seat.new.cells ≡ seat.old.cells }
-    ensures actor { seat.new.actor ≡ seat.old.actor }
-    ensures last { seat.new.last ≤ line.now.number }
-    ensures starts { StartsWith seat.new.entries seat.old.entries }
+    ensures after { IsSeatAfter line.now.number seat.old seat.new }
     ensures follows { IfOk result (Answers J.land seat.old seat.new memory.old memory.new line.now) }
 {
     match &line.command {

@@ -8,7 +8,8 @@ ghost use Rattle.script_service.specs.Collecting.{AreAnswers, HasCollected, HasH
 ghost use Rattle.script_service.specs.Underway.{AreReady};
 
 use crate::actor::{Actor, Heard};
-use crate::serving::{answer_phase, seat_actors};
+use crate::serving::seat_actors;
+use crate::threads::run_phase;
 use gh_base::{Gate, NoMemory};
 use script_text::Script;
 use std::alloc::Global;
@@ -56,7 +57,7 @@ fn collect_phases<'l, 'g, J: Naming, R: Threads + Sync, G: Gate>(
 {
     let mut heard = Vec::new(alloc);
     for place in 0..script.phases.len() {
-        answer_phase(rt, alloc, service, actors, script, place, gate)?;
+        run_phase(rt, alloc, service, actors, script, place, gate)?;
         hand_over(actors, &mut heard)?;
     }
     Ok(heard)
@@ -78,7 +79,7 @@ fn answer_at<'l, 'g, J: Naming, R: Threads + Sync, G: Gate>(
 {
     let names = script.actors.len() as u32;
     let mut service = Seat::new(alloc, log, ground, names)?;
-    let mut actors = seat_actors(alloc, log, ground, &service, names)?;
+    let mut actors = seat_actors(alloc, log, ground, &service, script)?;
     let heard = collect_phases(rt, alloc, &mut service, &mut actors, script, gate)?;
     let entries = service.len();
     Ok(Answers { heard, entries })

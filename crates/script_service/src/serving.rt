@@ -1,12 +1,12 @@
 //! The service.
-ghost use Rattle.std.specs.Prelude.{◌≡◌, ◌<◌, ◌≤◌, ◌+◌, ◌++◌, ℕ, List, [], All, IfOk, OnOk, IsErrOf, length, map};
+ghost use Rattle.std.specs.Prelude.{◌≡◌, ◌<◌, ◌≤◌, ◌++◌, ℕ, List, [], All, IfOk, OnOk, IsErrOf, length, map};
 ghost use Rattle.std.specs.Io.KnownBytes.{Appends};
 ghost use Rattle.gh_base.specs.Causes.{Rose, AppendsFront};
 ghost use Rattle.script_text.specs.declared.script.Line.{Line};
 ghost use Rattle.script_text.specs.Scripts.{IsScript};
 ghost use Rattle.script_service.specs.Writing.{BeginsText, Fits, BeginsOrFits, lines_text};
-ghost use Rattle.script_service.specs.Actors.{AreSeated, Know, heard_in, parts_in};
-ghost use Rattle.script_service.specs.Underway.{AreReady, HasPhase, HasServed, phase_of};
+ghost use Rattle.script_service.specs.Actors.{Know, heard_in, parts_in};
+ghost use Rattle.script_service.specs.Underway.{AreReady, HasServed, IsCutOff, phase_of};
 
 use crate::actor::{Actor, Heard};
 use crate::journal::journal_text;
@@ -75,31 +75,6 @@ fn phase_text<J: Naming>(
     parts_text(alloc, &script.actors, phase, actors)
 }
 
-/// The phase of a number: all actors run at once.
-pub(crate) fn answer_phase<'l, 'g, J: Naming, R: Threads + Sync, G: Gate>(
-    rt: &R,
-    alloc: Global,
-    service: &mut Seat<'l, 'g, J>,
-    actors: &mut [Actor<'l, 'g, J>],
-    script: &Script,
-    place: usize,
-    gate: &G,
-) -> Result<(), NoMemory>
-    requires script { IsScript J.land.profiles script.now }
-    requires there { place < length script.now.phases }
-    requires ready { AreReady script.now place service.old actors.old }
-    ensures ready { IfOk result (λ _. AreReady script.now (place + 1) service.new actors.new) }
-    ensures heard { IfOk result (λ _. All (λ a.
-        All (λ heard. heard.place < length (phase_of script.now place)) a.part) actors.new) }
-    ensures phase { IfOk result (λ _.
-        HasPhase J.land script.now place service.old.entries service.new.entries actors.old actors.new) }
-{
-    let names = script.actors.len() as u32;
-    let phase = script.phases.get(place).as_slice();
-    run_phase(rt, alloc, service, actors, phase, gate, names)?;
-    Ok(())
-}
-
 /// Runs a script, phase by phase, and writes the replies of each as it ends.
 fn serve_phases<'l, 'g, J: Naming, R: Threads + Sync, K: Sink, G: Gate>(
     rt: &R,
@@ -116,14 +91,13 @@ fn serve_phases<'l, 'g, J: Naming, R: Threads + Sync, K: Sink, G: Gate>(
     requires none { Know J.land [] [] actors.old }
     ensures done { OnOk result (HasServed J.land script.now service.new.entries (length script.now.phases) (K.held out.old) (K.held out.new)) }
     ensures front { IsErrOf result GiveFault.WriteFault →
-        (text : List ℕ) × BeginsOrFits J.land script.now text × AppendsFront (K.held out.old) (K.held out.new) text }
+        IsCutOff J.land script.now (K.held out.old) (K.held out.new) (K.faults out.old) (K.faults out.new) }
     ensures part { IsErrOf result GiveFault.NoMemory →
         (text : List ℕ) × BeginsText J.land script.now text × Appends (K.held out.old) (K.held out.new) text }
-    ensures cause { IsErrOf result GiveFault.WriteFault → Rose (K.faults out.old) (K.faults out.new) }
     ensures later { OnOk result (K.faults out.old ≤ K.faults out.new) }
 {
     for place in 0..script.phases.len() {
-        answer_phase(rt, alloc, service, actors, script, place, gate)?;
+        run_phase(rt, alloc, service, actors, script, place, gate)?;
         let text = phase_text(alloc, script, place, actors)?;
         give_all(out, text.as_bytes())?;
     }
@@ -136,19 +110,19 @@ pub(crate) fn seat_actors<'l, 'g, J: Naming>(
     log: &'l Log<J>,
     ground: &'g Ground,
     service: &Seat<'l, 'g, J>,
-    count: u32,
+    script: &Script,
 ) -> Result<Vec<Actor<'l, 'g, J>>, NoMemory>
     requires land { ground.now ≡ J.land }
-    requires some { 0 < length J.land.profiles }
+    requires script { IsScript J.land.profiles script.now }
+    requires capacity { length log.now ≡ script.now.capacity }
     requires cells { service.now.cells ≡ log.now }
     requires nothing { service.now.entries ≡ [] }
-    ensures len { IfOk result (λ seats. length seats.items ≡ count) }
-    ensures seated { IfOk result (λ seats. AreSeated service.now seats.items) }
+    ensures ready { IfOk result (λ seats. AreReady script.now 0 service.now seats.items) }
     ensures none { IfOk result (λ seats. Know J.land [] [] seats.items) }
-    ensures first { IfOk result (λ seats. All (λ a. a.seat.last ≡ 0) seats.items) }
 {
+    let names = script.actors.len() as u32;
     let mut seats = Vec::new(alloc);
-    for actor in 0..count {
+    for actor in 0..names {
         let seat = Seat::new(alloc, log, ground, actor)?;
         let memory = Memory::new(alloc, ground)?;
         seats.push(Actor::new(alloc, seat, memory))?;
@@ -171,14 +145,13 @@ fn serve_at<'l, 'g, J: Naming, R: Threads + Sync, K: Sink, G: Gate>(
     requires capacity { length log.now ≡ script.now.capacity }
     ensures done { OnOk result ((text : List ℕ) × Fits J.land script.now text × Appends (K.held out.old) (K.held out.new) text) }
     ensures front { IsErrOf result GiveFault.WriteFault →
-        (text : List ℕ) × BeginsOrFits J.land script.now text × AppendsFront (K.held out.old) (K.held out.new) text }
+        IsCutOff J.land script.now (K.held out.old) (K.held out.new) (K.faults out.old) (K.faults out.new) }
     ensures part { IsErrOf result GiveFault.NoMemory →
         (text : List ℕ) × BeginsText J.land script.now text × Appends (K.held out.old) (K.held out.new) text }
-    ensures cause { IsErrOf result GiveFault.WriteFault → Rose (K.faults out.old) (K.faults out.new) }
 {
     let names = script.actors.len() as u32;
     let mut service = Seat::new(alloc, log, ground, names)?;
-    let mut actors = seat_actors(alloc, log, ground, &service, names)?;
+    let mut actors = seat_actors(alloc, log, ground, &service, script)?;
     serve_phases(rt, alloc, &mut service, &mut actors, script, out, gate)?;
     let journal = journal_text(alloc, &script.actors, ground.profiles(), &service)?;
     give_all(out, journal.as_bytes())?;
@@ -198,10 +171,9 @@ fn serve_over<J: Naming, R: Threads + Sync, K: Sink, G: Gate>(
     requires script { IsScript J.land.profiles script.now }
     ensures done { OnOk result ((text : List ℕ) × Fits J.land script.now text × Appends (K.held out.old) (K.held out.new) text) }
     ensures front { IsErrOf result GiveFault.WriteFault →
-        (text : List ℕ) × BeginsOrFits J.land script.now text × AppendsFront (K.held out.old) (K.held out.new) text }
+        IsCutOff J.land script.now (K.held out.old) (K.held out.new) (K.faults out.old) (K.faults out.new) }
     ensures part { IsErrOf result GiveFault.NoMemory →
         (text : List ℕ) × BeginsText J.land script.now text × Appends (K.held out.old) (K.held out.new) text }
-    ensures cause { IsErrOf result GiveFault.WriteFault → Rose (K.faults out.old) (K.faults out.new) }
 {
     let log = Log::<J>::new(alloc, script.capacity)?;
     serve_at(rt, alloc, &log, ground, script, out, gate)

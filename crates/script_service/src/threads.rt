@@ -1,15 +1,14 @@
 //! The actors of a phase at once.
-ghost use Rattle.std.specs.Prelude.{◌≡◌, ◌<◌, ◌≤◌, ℕ, IfOk, All, IsTrue, false, length, slice_index_or};
-ghost use Rattle.script_text.specs.declared.script.Line.{Line};
-ghost use Rattle.script_service.specs.Answering.{lines, accepted};
-ghost use Rattle.script_service.specs.Fitting.{by_actor};
+ghost use Rattle.std.specs.Prelude.{◌≡◌, ◌<◌, ℕ, IfOk, All, IsTrue, false, length, slice_index_or};
+ghost use Rattle.script_text.specs.Scripts.{IsScript};
 ghost use Rattle.traffic_share.specs.Seats.{HasSameSeat, StartsWith};
-ghost use Rattle.script_service.specs.Actors.{Acting, AreSeated, Awaits, CanBeAsked, Continues, HasRun, IsTaught, StaysBelow, accepted_by, parts_in};
+ghost use Rattle.script_service.specs.Actors.{Acting, Awaits, CanBeAsked, HasRun, IsTaught, accepted_by};
+ghost use Rattle.script_service.specs.Underway.{AreReady, HasPhase};
 
 use crate::actor::Actor;
 use crate::crossing::{ground_is_shared, session_is_sent};
 use gh_base::{Gate, NoMemory};
-use script_text::Line;
+use script_text::{Line, Script};
 use std::alloc::Global;
 use std::thread;
 use std::thread::Threads;
@@ -85,32 +84,39 @@ fn have_accepted<J: Naming>(actors: &[Actor<'_, '_, J>], count: u32) -> bool
     left == 0
 }
 
-/// One phase: all actors run at once, and then all know all that was done. Want of memory where an entry is no reply's.
+/// The service learns from all seats, and then they from it.
+fn gather<'l, 'g, J: Naming>(service: &mut Seat<'l, 'g, J>, actors: &mut [Actor<'l, 'g, J>])
+    requires cells { (i : ℕ) (d : Acting) → i < length actors.old → (slice_index_or actors.old i d).seat.cells ≡ service.old.cells }
+    ensures same { HasSameSeat service.old service.new }
+    ensures longer { StartsWith service.new.entries service.old.entries }
+    ensures len { length actors.new ≡ length actors.old }
+    ensures each { (i : ℕ) (d : Acting) → i < length actors.old → IsTaught service.new (slice_index_or actors.old i d) (slice_index_or actors.new i d) }
+{
+    collect(service, actors);
+    share(service, actors);
+}
+
+/// The phase of a number: all actors run at once, and then all know all that was done. Want of memory where an entry is
+/// no reply's.
 pub(crate) fn run_phase<'l, 'g, J: Naming, R: Threads + Sync, G: Gate>(
     rt: &R,
     alloc: Global,
     service: &mut Seat<'l, 'g, J>,
     actors: &mut [Actor<'l, 'g, J>],
-    phase: &[Line],
+    script: &Script,
+    place: usize,
     gate: &G,
-    names: u32,
 ) -> Result<(), NoMemory>
-    requires seated { AreSeated service.old actors.old }
-    requires awaits { All (Awaits phase.now) actors.old }
-    requires asked { CanBeAsked (length J.land.profiles) names phase.now }
-    ensures stays { IfOk result (λ _. (i : ℕ) (d : Acting) → i < length actors.old → StaysBelow phase.now (slice_index_or actors.old i d) (slice_index_or actors.new i d)) }
-    ensures cells { service.new.cells ≡ service.old.cells }
-    ensures len { length actors.new ≡ length actors.old }
-    ensures seated { AreSeated service.new actors.new }
-    ensures room { length service.new.entries ≤ length service.new.cells }
-    ensures there { IfOk result (λ _. All (λ a. All (λ heard. heard.place < length phase.now) a.part) actors.new) }
-    ensures order { IfOk result (λ _. lines (parts_in phase.now actors.new) ≡ by_actor (length actors.old) phase.now) }
-    ensures serves { IfOk result (λ _. Continues J.land (length service.old.cells) service.old.entries actors.old service.new.entries actors.new (parts_in phase.now actors.new)) }
+    requires script { IsScript J.land.profiles script.now }
+    requires there { place < length script.now.phases }
+    requires ready { AreReady script.now place service.old actors.old }
+    ensures { IfOk result (λ _. HasPhase J.land script.now place service.old service.new actors.old actors.new) }
 {
+    let names = script.actors.len() as u32;
+    let phase = script.phases.get(place).as_slice();
     let before = service.len();
     run_all(rt, alloc, actors, phase, gate, names);
-    collect(service, actors);
-    share(service, actors);
+    gather(service, actors);
     service.list_fits();
     let fresh = service.len() - before;
     if !have_accepted(actors, fresh) {

@@ -15,9 +15,10 @@ loop-place-init g c =
 pub loop-place-preserved : goal.loop-place-preserved
 loop-place-preserved g c =
     let inv = c.loop-place.invariant in
-    let told = c.in_ok-answer_phase.ensures in
+    let told = c.in_ok-run_phase.ensures in
     let handed = c.in_ok-hand_over.ensures in
     record {
       ready = ready_handed c.args.script.now _ _ _ _ told.ready handed.actors;
-      collected = collected_more g.J.Naming.land c.args.script.now c.loop-place.place _ _ c.loop-place.actors _ _ _ _ inv.collected inv.ready.len (omega arith) told.phase handed.actors handed.heard;
+      collected = collected_more g.J.Naming.land c.args.script.now c.loop-place.place c.loop-place.service c.run_phase.new.service c.loop-place.actors c.run_phase.new.actors _ _ _
+          inv.collected inv.ready (omega arith) told handed.actors handed.heard;
     }

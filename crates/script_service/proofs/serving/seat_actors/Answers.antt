@@ -2,6 +2,7 @@ use Rattle.std.proofs.Common.{ℕ, ◌≡◌, ◌∙◌, ap, sym, subst, arith, 
 use Rattle.traffic_share.specs.Seats.{Place}
 use Rattle.script_service.specs.Actors.{Acting, IsSeated}
 use Rattle.script_service.specs.Going.{Knowing, Knows}
+use Rattle.script_service.proofs.PhaseReady.{ready_first}
 use Rattle.script_service.proofs.SeatedActors.{each_push}
 use Rattle.script_service.proofs.serving.seat_actors.Goals as goal
 
@@ -25,3 +26,9 @@ loop-actor-preserved g c =
       none = each_push (λ (i : ℕ) (b : Acting). Knows g.J.Naming.land [] [] b.knows) c.loop-actor.seats.items c.push.new.self.items a items before.none
           (subst (λ (k : Knowing). Knows g.J.Naming.land [] [] k) (sym knows_is) (c.in_ok-memory.ensures []));
     }
+
+pub returns-clause-ready : goal.returns-clause-ready
+returns-clause-ready g c =
+    let inv = c.loop-actor.invariant in
+    let names = c.len-names.ensures in
+    ready_first _ c.args.script.now c.args.service.now c.loop-actor.seats.items c.requires.script (ap length c.requires.cells ∙ c.requires.capacity) (omega (arith, inv.len)) inv.seated inv.first

@@ -1,6 +1,4 @@
-use Rattle.std.proofs.Common.{◌∙◌, refl, arith}
-use Rattle.script_service.specs.Actors.{parts_in}
-use Rattle.script_service.specs.Underway.{phase_of}
+use Rattle.std.proofs.Common.{◌∙◌, arith}
 use Rattle.script_service.proofs.PhaseServed.{front_more, rose_later, underway_more, underway_none}
 use Rattle.script_service.proofs.serving.serve_phases.Goals as goal
 
@@ -15,24 +13,20 @@ loop-place-init g c =
 pub loop-place-preserved : goal.loop-place-preserved
 loop-place-preserved g c =
     let inv = c.loop-place.invariant in
-    let told = c.in_ok-answer_phase.ensures in
-    let script = c.args.script.now in
-    let phase = phase_of script c.loop-place.place in
+    let told = c.in_ok-run_phase.ensures in
     record {
       ready = told.ready;
-      underway = underway_more _ script phase (parts_in phase c.answer_phase.new.actors) _ script.capacity _ _ c.loop-place.actors _ _ _ _ inv.underway refl inv.ready.len (omega arith) refl
-          told.phase.order told.phase.serves told.phase.room c.as_bytes.result.now (c.as_bytes.ensures ∙ c.in_ok-text.ensures) c.in_ok-give_all.ensures.ok;
+      underway = underway_more g.J.Naming.land c.args.script.now c.loop-place.place c.loop-place.service c.run_phase.new.service c.loop-place.actors c.run_phase.new.actors inv.ready (omega arith) told _ _ _
+          inv.underway c.as_bytes.result.now (c.as_bytes.ensures ∙ c.in_ok-text.ensures) c.in_ok-give_all.ensures.ok;
       later = omega (arith, inv.later, c.in_ok-give_all.ensures.cause.later);
     }
 
 pub returns-in_err-give_all-clause-front : goal.returns-in_err-give_all-clause-front
 returns-in_err-give_all-clause-front g c =
     let inv = c.loop-place.invariant in
-    let told = c.in_ok-answer_phase.ensures in
-    let script = c.args.script.now in
-    let phase = phase_of script c.loop-place.place in
-    λ fault. front_more _ script phase (parts_in phase c.answer_phase.new.actors) _ script.capacity _ _ c.loop-place.actors _ _ _ _ inv.underway refl inv.ready.len (omega arith) refl
-    told.phase.order told.phase.serves told.phase.room c.as_bytes.result.now (c.as_bytes.ensures ∙ c.in_ok-text.ensures) c.in_err-give_all.ensures.err
-
-pub returns-in_err-give_all-clause-cause : goal.returns-in_err-give_all-clause-cause
-returns-in_err-give_all-clause-cause g c = λ fault. rose_later _ _ _ c.loop-place.invariant.later c.in_err-give_all.ensures.cause.failed
+    let told = c.in_ok-run_phase.ensures in
+    λ fault. (
+      front_more g.J.Naming.land c.args.script.now c.loop-place.place c.loop-place.service c.run_phase.new.service c.loop-place.actors c.run_phase.new.actors inv.ready (omega arith) told _ _ _
+      inv.underway c.as_bytes.result.now (c.as_bytes.ensures ∙ c.in_ok-text.ensures) c.in_err-give_all.ensures.err,
+      rose_later _ _ _ inv.later c.in_err-give_all.ensures.cause.failed,
+    )

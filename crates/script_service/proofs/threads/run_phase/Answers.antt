@@ -1,66 +1,44 @@
-use Rattle.std.proofs.Common.{◌≡◌, ◌∙◌, ◌<◌, ◌+◌, ◌≤◌, List, All, length, get_or, ap, arith}
-use Rattle.traffic_share.specs.Seats.{Place}
-use Rattle.script_service.specs.Answering.{Answered, accepted}
-use Rattle.script_service.specs.Fitting.{by_actor}
-use Rattle.script_service.specs.Actors.{Acting, Know, parts_in}
-use Rattle.script_service.proofs.AcceptedCount.{accepted_in}
+use Rattle.std.proofs.Common.{◌≡◌, ◌∙◌, ◌<◌, ◌+◌, length, arith}
+use Rattle.script_service.specs.Actors.{accepted_by}
 use Rattle.script_service.proofs.CommandMore.{starts_len}
-use Rattle.script_service.proofs.JoinedParts.{AllDone, AllInOrder, order_of, done_of, know_joined, serves_joined, parts_order}
-use Rattle.script_service.proofs.SeatNumbers.{stays_of}
-use Rattle.script_service.proofs.SeatsBack.{actor_at}
-use Rattle.script_service.proofs.threads.run_phase.Given.{Over}
+use Rattle.script_service.proofs.PhaseReady.{asked_now, phase_is, ready_here}
+use Rattle.script_service.proofs.PhaseRun.{phase_run}
 use Rattle.script_service.proofs.threads.run_phase.Goals as goal
 
-in_order : (g : Over) (c : goal.Else-not-have_accepted g) (d : Acting) → AllInOrder c.args.phase.now c.share.new.actors d
-in_order g c d i below =
-    let lens = ap length c.collect.ensures.actors in
-    let collected : i < length c.collect.new.actors = omega (arith, c.share.ensures.len) in
-    let ran : i < length c.run_all.new.actors = omega arith in
+pub run_all-requires-clause-awaits : goal.run_all-requires-clause-awaits
+run_all-requires-clause-awaits g c κs within =
+    let here = phase_is c.args.script.now.phases c.args.place _ c.as_slice-phase.result.now c.get.ensures c.as_slice-phase.ensures in
+    ready_here _ c.args.script.now c.args.place c.as_slice-phase.result.now c.args.service.now c.args.actors.now c.requires.script c.requires.there here c.requires.ready
+
+pub run_all-requires-clause-asked : goal.run_all-requires-clause-asked
+run_all-requires-clause-asked g c κs within =
+    let here = phase_is c.args.script.now.phases c.args.place _ c.as_slice-phase.result.now c.get.ensures c.as_slice-phase.ensures in
+    asked_now _ c.args.script.now c.args.place _ c.as_slice-phase.result.now c.requires.script c.requires.there here c.len-names.ensures
+
+pub gather-requires-clause-cells : goal.gather-requires-clause-cells
+gather-requires-clause-cells g c κs within i d here =
     let began : i < length c.args.actors.now = omega (arith, c.run_all.ensures.len) in
-    let same = actor_at c.collect.new.actors c.run_all.new.actors i d d c.collect.ensures.actors ran in
-    order_of g.J.Naming.land c.args.service.now c.collect.new.service c.args.phase.now i (get_or c.args.actors.now i d) (get_or c.run_all.new.actors i d) (get_or c.share.new.actors i d)
-    (c.requires.seated i d began) (c.run_all.ensures.run i d began) (rw same at (c.share.ensures.each i d collected)) (c.have_accepted.ensures.done c.if-not-have_accepted.false i d below)
+    (c.run_all.ensures.run i d began).still.cells ∙ (c.requires.ready.seated i d began).cells
 
-each : (g : Over) (c : goal.Else-not-have_accepted g) (past : List Answered) → All (λ (a : Answered). a.at ≤ length c.args.service.now.entries) past →
-    Know g.J.Naming.land c.args.service.now.entries past c.args.actors.now → (d : Acting) →
-    AllDone g.J.Naming.land (length c.args.service.now.cells) past (length c.args.service.now.entries) c.collect.new.service.entries c.args.phase.now c.share.new.actors d
-each g c past within knows d i below =
-    let lens = ap length c.collect.ensures.actors in
-    let collected : i < length c.collect.new.actors = omega (arith, c.share.ensures.len) in
-    let ran : i < length c.run_all.new.actors = omega arith in
-    let began : i < length c.args.actors.now = omega (arith, c.run_all.ensures.len) in
-    let same = actor_at c.collect.new.actors c.run_all.new.actors i d d c.collect.ensures.actors ran in
-    done_of g.J.Naming.land past c.args.service.now c.collect.new.service c.args.phase.now i (get_or c.args.actors.now i d) (get_or c.run_all.new.actors i d) (get_or c.share.new.actors i d) within (knows i d began)
-    (c.requires.seated i d began) (c.run_all.ensures.run i d began) (c.collect.ensures.each i d ran) (rw same at (c.share.ensures.each i d collected))
-    (c.have_accepted.ensures.done c.if-not-have_accepted.false i d below)
-
-pub returns-clause-order : goal.returns-clause-order
-returns-clause-order g c =
-    let lens = ap length c.collect.ensures.actors in
-    let count : length c.share.new.actors ≡ length c.args.actors.now = omega (arith, c.share.ensures.len, c.run_all.ensures.len) in
-    parts_order c.args.phase.now c.share.new.actors (in_order g c) ∙ ap (λ n. by_actor n c.args.phase.now) count
-
-pub returns-clause-serves : goal.returns-clause-serves
-returns-clause-serves g c past within knows =
-    let counted = c.have_accepted.ensures.count c.if-not-have_accepted.false in
-    let parts = accepted_in c.args.phase.now c.share.new.actors in
+pub returns : goal.returns
+returns g c =
+    let here = phase_is c.args.script.now.phases c.args.place _ c.as_slice-phase.result.now c.get.ensures c.as_slice-phase.ensures in
+    let gathered = c.gather.ensures in
+    let told = c.have_accepted.ensures in
+    let counted = told.count c.if-not-have_accepted.false in
     let now = c.len.ensures in
-    let shared = ap (λ (s : Place). length s.entries) c.share.ensures.service in
-    let before = c.len-before.ensures in
-    let grew = starts_len _ _ c.collect.ensures.longer in
-    let count : length c.collect.new.service.entries ≡ length c.args.service.now.entries + accepted (parts_in c.args.phase.now c.share.new.actors) = omega arith in
-    let done = each g c past within knows in
-    rw c.share.ensures.service (
-      serves_joined g.J.Naming.land _ past _ _ c.args.phase.now c.share.new.actors c.collect.ensures.longer done count,
-      know_joined g.J.Naming.land _ _ _ c.args.phase.now past c.share.new.actors done,
-    )
-
-pub returns-clause-stays : goal.returns-clause-stays
-returns-clause-stays g c i d began =
-    let lens = ap length c.collect.ensures.actors in
-    let ran : i < length c.run_all.new.actors = omega (arith, c.run_all.ensures.len) in
-    let collected : i < length c.collect.new.actors = omega arith in
-    let below : i < length c.share.new.actors = omega (arith, c.share.ensures.len) in
-    let same = actor_at c.collect.new.actors c.run_all.new.actors i d d c.collect.ensures.actors ran in
-    stays_of g.J.Naming.land c.collect.new.service c.args.phase.now (get_or c.args.actors.now i d) (get_or c.run_all.new.actors i d) (get_or c.share.new.actors i d)
-    (c.run_all.ensures.run i d began) (rw same at (c.share.ensures.each i d collected)) (c.have_accepted.ensures.done c.if-not-have_accepted.false i d below)
+    let was = c.len-before.ensures in
+    let grew = starts_len _ _ gathered.longer in
+    let count : length c.gather.new.service.entries ≡ length c.args.service.now.entries + accepted_by c.gather.new.actors = omega arith in
+    phase_run g.J.Naming.land c.args.script.now c.args.place c.as_slice-phase.result.now c.args.service.now c.gather.new.service c.args.actors.now c.run_all.new.actors c.gather.new.actors
+    c.requires.script c.requires.there here c.requires.ready (record {
+      seated = c.requires.ready.seated;
+      ran_len = c.run_all.ensures.len;
+      run = c.run_all.ensures.run;
+      same = gathered.same;
+      starts = gathered.longer;
+      len = gathered.len;
+      taught = gathered.each;
+      done = told.done c.if-not-have_accepted.false;
+      count = count;
+    }) c.list_fits.ensures
