@@ -27,6 +27,6 @@ returns-in_err-give_all-clause-front g c =
     let told = c.in_ok-run_phase.ensures in
     λ fault. (
       front_more g.J.Naming.land c.args.script.now c.loop-place.place c.loop-place.service c.run_phase.new.service c.loop-place.actors c.run_phase.new.actors inv.ready (omega arith) told _ _ _
-      inv.underway c.as_bytes.result.now (c.as_bytes.ensures ∙ c.in_ok-text.ensures) c.in_err-give_all.ensures.err,
+          inv.underway c.as_bytes.result.now (c.as_bytes.ensures ∙ c.in_ok-text.ensures) c.in_err-give_all.ensures.err,
       rose_later _ _ _ inv.later c.in_err-give_all.ensures.cause.failed,
     )
