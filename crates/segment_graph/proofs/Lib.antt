@@ -1,0 +1,4 @@
+pub mod Counting
+pub mod Linking
+pub mod Listing
+pub mod Wording
