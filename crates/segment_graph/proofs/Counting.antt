@@ -1,5 +1,5 @@
 -- Round a tower stands each directed edge that starts there, once, and no other.
-use Rattle.std.proofs.Common.{◌≡◌, ℕ, zero, suc, ◌+◌, ◌*◌, ◌/◌, ◌%◌, ◌<◌, ◌≤◌, Bool, true, false, cond, ◌&&◌, eqb, ltb, List, [], ◌∷◌, ◌++◌, length, get_or, inl, inr, refl, sym, ap, ◌∙◌, arith, add-zero}
+use Rattle.std.proofs.Common.{◌≡◌, ℕ, zero, suc, ◌+◌, ◌*◌, ◌/◌, ◌%◌, ◌<◌, ◌≤◌, Bool, true, false, cond, ◌&&◌, eqb, ltb, List, [], ◌∷◌, ◌++◌, length, get_or, inl, inr, refl, sym, ap, ◌∙◌, subst, arith, add-zero, Result, Ok, Err, OnOk, OnErr}
 use Rattle.std.specs.Prelude.{All}
 use Rattle.std.proofs.lemmas.Bool.{cases_eq, cases_lt, cases_order, eq-eqb, ne_eqb, lt-ltb, le-ltb}
 use Rattle.std.proofs.lemmas.List.{length_push}
@@ -141,3 +141,16 @@ edge_kept graph new edge facts e room is =
     let more = length_push graph.edges edge in
     rw is (are_facts graph.places (graph.edges ++ edge ∷ []) facts.few_places (omega arith) facts.places
     (All-push (IsEdge (length graph.places)) graph.edges edge facts.edges e))
+
+-- whatever came of adding
+pub place_kept_by : {E : Type 0} (graph new : Graph) (place : Point) (result : Result Unit E)
+    → IsGraph graph → IsOnEarth place → length graph.places < 2000000
+    → OnOk result (new ≡ graph_of (graph.places ++ place ∷ []) graph.edges) → OnErr result (new ≡ graph) → IsGraph new
+place_kept_by graph new place (Ok u) facts there room ok err = place_kept graph new place facts there room ok
+place_kept_by graph new place (Err u) facts there room ok err = subst IsGraph (sym err) facts
+
+pub edge_kept_by : {E : Type 0} (graph new : Graph) (edge : Edge) (result : Result Unit E)
+    → IsGraph graph → IsEdge (length graph.places) edge → length graph.edges < 4000000
+    → OnOk result (new ≡ graph_of graph.places (graph.edges ++ edge ∷ [])) → OnErr result (new ≡ graph) → IsGraph new
+edge_kept_by graph new edge (Ok u) facts e room ok err = edge_kept graph new edge facts e room ok
+edge_kept_by graph new edge (Err u) facts e room ok err = subst IsGraph (sym err) facts

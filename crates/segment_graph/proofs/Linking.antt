@@ -1,10 +1,11 @@
 -- Links stay right as towers and edges are added.
-use Rattle.std.proofs.Common.{◌≡◌, ℕ, zero, suc, ◌+◌, ◌*◌, ◌/◌, ◌%◌, ◌<◌, ◌≤◌, Bool, true, false, cond, eqb, List, [], ◌∷◌, ◌++◌, length, get_or, set, inl, inr, refl, sym, ap, ◌∙◌, subst, arith, length-set, length-append}
+use Rattle.std.proofs.Common.{◌≡◌, ℕ, zero, suc, ◌+◌, ◌*◌, ◌/◌, ◌%◌, ◌<◌, ◌≤◌, Bool, true, false, cond, eqb, List, [], ◌∷◌, ◌++◌, length, get_or, set, inl, inr, refl, sym, ap, ◌∙◌, subst, arith, length-set, length-append, Result, Ok, Err, OnOk, OnErr}
 use Rattle.std.proofs.lemmas.Bool.{cases_eq, cases_lt, cases_order, eq-eqb, ne_eqb}
 use Rattle.std.proofs.lemmas.List.{get_or_append_left, get_or_push, get_or-set_same, get_or-set_other, length_push}
+use Rattle.base_graph.specs.declared.graph.EdgeEnds.{EdgeEnds}
 use Rattle.segment_graph.specs.declared.row.EdgeRow.{EdgeRow}
 use Rattle.segment_graph.specs.Halves.{link_below}
-use Rattle.segment_graph.specs.Rows.{AreLinked, no_row, row_at, tower_by, next_of}
+use Rattle.segment_graph.specs.Rows.{AreLinked, no_row, row_at, tower_by, next_of, linked_row}
 use Rattle.segment_graph.proofs.Listing.{link_below-le, same_link, no_link}
 
 pub none_linked : AreLinked [] []
@@ -53,7 +54,7 @@ picked rows row pick h side e s = ap (λ (b : Bool). pick b (row_at (rows ++ row
 abbrev tower_on : Bool → EdgeRow → ℕ
 tower_on side row = cond {A = ℕ} side row.adjacent.0 row.base.0
 
-abbrev next_on : Bool → EdgeRow → ℕ
+abbrev pub next_on : Bool → EdgeRow → ℕ
 next_on side row = cond {A = ℕ} side row.next_at_adjacent row.next_at_base
 
 even : (n : ℕ) → eqb (2 * n % 2) 1 ≡ false
@@ -111,10 +112,10 @@ link_both rows row tower =
 
 -- the heads that lead to the new half-edges
 abbrev pub heads_after : List ℕ → List EdgeRow → EdgeRow → List ℕ
-heads_after heads rows row = set (set heads row.base.0 (2 * length rows + 1)) row.adjacent.0 (2 * length rows + 1 + 1)
+heads_after heads rows row = set (set heads row.base.0 (2 * length rows + 1)) row.adjacent.0 (2 * length rows + 2)
 
 length-heads : (heads : List ℕ) (rows : List EdgeRow) (row : EdgeRow) → length (heads_after heads rows row) ≡ length heads
-length-heads heads rows row = length-set (set heads row.base.0 (2 * length rows + 1)) row.adjacent.0 (2 * length rows + 1 + 1) ∙ length-set heads row.base.0 (2 * length rows + 1)
+length-heads heads rows row = length-set (set heads row.base.0 (2 * length rows + 1)) row.adjacent.0 (2 * length rows + 2) ∙ length-set heads row.base.0 (2 * length rows + 1)
 
 first_after : (heads : List ℕ) (rows : List EdgeRow) (row : EdgeRow) (tower : ℕ) → AreLinked heads rows → IsNext heads rows row → tower < length heads
     → get_or (heads_after heads rows row) tower 0 ≡ link_below (tower_by (rows ++ row ∷ [])) tower (2 * length (rows ++ row ∷ []))
@@ -126,14 +127,14 @@ first_after heads rows row tower linked new l =
     ≡ cond {A = ℕ} (eqb row.adjacent.0 tower) (suc (suc n)) (cond {A = ℕ} (eqb row.base.0 tower) (suc n) (link_below (tower_by rows) tower n)) = link_both rows row tower in
     elim (cases_eq row.adjacent.0 tower) [
       | inl e ↦
-          ap (λ (t : ℕ). get_or (set once row.adjacent.0 (n + 1 + 1)) t 0) (sym e)
-          ∙ (get_or-set_same once row.adjacent.0 (n + 1 + 1) 0 there
+          ap (λ (t : ℕ). get_or (set once row.adjacent.0 (n + 2)) t 0) (sym e)
+          ∙ (get_or-set_same once row.adjacent.0 (n + 2) 0 there
           ∙ sym (link ∙ (ap (λ (b : Bool). cond {A = ℕ} b (suc (suc n)) (cond {A = ℕ} (eqb row.base.0 tower) (suc n) (link_below (tower_by rows) tower n))) (eq-eqb row.adjacent.0 tower e) ∙ omega arith)))
       | inr a ↦
           let past : link_below (tower_by (rows ++ row ∷ [])) tower (2 * length (rows ++ row ∷ []))
           ≡ cond {A = ℕ} (eqb row.base.0 tower) (suc n) (link_below (tower_by rows) tower n) =
           link ∙ ap (λ (b : Bool). cond {A = ℕ} b (suc (suc n)) (cond {A = ℕ} (eqb row.base.0 tower) (suc n) (link_below (tower_by rows) tower n))) (ne_eqb row.adjacent.0 tower a) in
-          get_or-set_other once row.adjacent.0 tower (n + 1 + 1) 0 (λ q. a (sym q))
+          get_or-set_other once row.adjacent.0 tower (n + 2) 0 (λ q. a (sym q))
           ∙ elim (cases_eq row.base.0 tower) [
             | inl e ↦
                 ap (λ (t : ℕ). get_or (set heads row.base.0 (n + 1)) t 0) (sym e)
@@ -215,3 +216,25 @@ edge_linked heads rows row linked new =
       first = λ tower l. first_after heads rows row tower linked new (omega arith);
       next = λ h l. next_after heads rows row h linked new l;
     }
+
+-- whatever came of adding a tower
+pub tower_linked_by : {E : Type 0} (heads new : List ℕ) (rows : List EdgeRow) (result : Result Unit E) → AreLinked heads rows
+    → OnOk result (new ≡ heads ++ 0 ∷ []) → OnErr result (new ≡ heads) → AreLinked new rows
+tower_linked_by heads new rows (Ok u) linked ok err = subst (λ (hs : List ℕ). AreLinked hs rows) (sym ok) (tower_linked heads rows linked)
+tower_linked_by heads new rows (Err u) linked ok err = subst (λ (hs : List ℕ). AreLinked hs rows) (sym err) linked
+
+-- an edge is added, step by step
+pub edge_linked_by : (heads : List ℕ) (rows : List EdgeRow) (ends : EdgeEnds) (first_point end_point count : ℕ) (row : EdgeRow) (new : List EdgeRow) (once twice : List ℕ)
+    → AreLinked heads rows → count ≡ length rows → ends.base.0 < length heads → ends.adjacent.0 < length heads → length rows < 4000000
+    → row ≡ linked_row heads (length rows) ends first_point end_point → new ≡ rows ++ row ∷ []
+    → once ≡ set heads ends.base.0 (2 * count + 1) → twice ≡ set once ends.adjacent.0 (2 * count + 2) → AreLinked twice new
+edge_linked_by heads rows ends first_point end_point count row new once twice linked c base adjacent room r n o t =
+    rw (t, o, n, r, c) (edge_linked heads rows (linked_row heads (length rows) ends first_point end_point) linked
+    (record { base = base; adjacent = adjacent; room = room; at_base = refl; at_adjacent = refl }))
+
+-- the link behind a half-edge
+pub next_there : (heads : List ℕ) (rows : List EdgeRow) (half link : ℕ) (side : Bool) (row : EdgeRow) → AreLinked heads rows → half < 2 * length rows
+    → row ≡ row_at rows (half / 2) → eqb (half % 2) 1 ≡ side → link ≡ next_on side row
+    → link ≡ link_below (tower_by rows) (tower_by rows half) half
+next_there heads rows half link side row linked l r s e =
+    e ∙ (ap (next_on side) r ∙ (ap (λ (b : Bool). next_on b (row_at rows (half / 2))) (sym s) ∙ linked.next half l))

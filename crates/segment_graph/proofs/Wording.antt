@@ -40,9 +40,11 @@ word_set bytes new words len index value is l read others =
           ∙ (get_or-numbered (word bytes) len k 0 b ∙ sym (others (4 * k) (apart k index other))))
     ])
 
--- bytes with others from a place on are as many
-pub length-bytes_with : (bytes new others : List ℕ) (at : ℕ) → new ≡ bytes_with bytes at others → at + length others ≤ length bytes → length new ≡ length bytes
-length-bytes_with bytes new others at e l =
+-- bytes in which a word is set are as many
+pub length-bytes_with : (bytes new : List ℕ) (at value : ℕ) → new ≡ bytes_with bytes at (to_le_bytes w32 value) → at + 4 ≤ length bytes → length new ≡ length bytes
+length-bytes_with bytes new at value e l =
+    let others = to_le_bytes w32 value in
+    let four : length others ≡ 4 = refl in
     let rest = drop (at + length others) bytes in
     omega (arith, ap length e, length-append (take at bytes ++ others) rest, length-append (take at bytes) others, length-take at bytes, length-drop (at + length others) bytes)
 

@@ -42,7 +42,6 @@ impl SegmentGraph {
     }
 
     /// Adds a tower, numbered from 0 on.
-    #[tactic(auto, using(crate::proofs::Grown::place_kept))]
     pub fn add_node(&mut self, place: Point) -> Result<NodeId, GraphFault>
         requires { IsOnEarth place }
         ensures node { IfOk result (λ node. node.0 ≡ length self.old.lists.places) }
@@ -61,7 +60,6 @@ impl SegmentGraph {
     }
 
     /// Adds an edge of `mm` mm, numbered from 0 on, from `base` over the points `between` to `adjacent`.
-    #[tactic(auto, using(crate::proofs::Grown::edge_kept))]
     pub fn add_edge(
         &mut self,
         base: NodeId,

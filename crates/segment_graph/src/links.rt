@@ -1,5 +1,5 @@
 //! Rows, and the lists of half-edges that their links are.
-ghost use Rattle.std.specs.Prelude.{◌≡◌, ◌<◌, ◌*◌, [], ◌∷◌, ◌++◌, length, OnOk, OnErr};
+ghost use Rattle.std.specs.Prelude.{◌≡◌, ◌<◌, ◌*◌, ◌==◌, [], ◌∷◌, ◌++◌, length, slice_index, if◌then◌else◌, OnOk, OnErr};
 ghost use Rattle.segment_graph.specs.Halves.{link_below};
 ghost use Rattle.segment_graph.specs.Rows.{AreLinked, linked_row, tower_by};
 ghost use Rattle.segment_graph.specs.Facts.{AreLinked-prop};
@@ -61,26 +61,45 @@ impl Links {
         ensures err { OnErr result (self.new.rows ≡ self.old.rows) }
         ensures towers { length self.new.heads ≡ length self.old.heads }
     {
-        let base = ends.base.0 as usize;
-        let adjacent = ends.adjacent.0 as usize;
-        let link = 2 * self.rows.len() + 1;
-        let next_at_adjacent = if adjacent == base {
-            link
-        } else {
-            self.heads.get(adjacent)
-        };
-        self.rows.push(EdgeRow {
+        let count = self.rows.len();
+        let row = self.linked(ends, first_point, end_point);
+        self.rows.push(row)?;
+        self.heads.set(ends.base.0 as usize, 2 * count + 1);
+        self.heads.set(ends.adjacent.0 as usize, 2 * count + 2);
+        Ok(())
+    }
+
+    /// The row of a new edge, before any list leads to it.
+    fn linked(&self, ends: EdgeEnds, first_point: u32, end_point: u32) -> EdgeRow
+        requires base { ends.base.0 < length self.now.heads }
+        requires adjacent { ends.adjacent.0 < length self.now.heads }
+        ensures { result
+            ≡ linked_row self.now.heads (length self.now.rows) ends first_point end_point }
+    {
+        let forward = 2 * self.rows.len() + 1;
+        let next_at_base = self.heads.get(ends.base.0 as usize);
+        EdgeRow {
             base: ends.base,
             adjacent: ends.adjacent,
             mm: ends.mm,
-            next_at_base: self.heads.get(base),
-            next_at_adjacent,
+            next_at_base,
+            next_at_adjacent: self.head_after(ends.adjacent, ends.base, forward),
             first_point,
             end_point,
-        })?;
-        self.heads.set(base, link);
-        self.heads.set(adjacent, link + 1);
-        Ok(())
+        }
+    }
+
+    /// The link that begins a tower's list once another's begins with this link.
+    fn head_after(&self, tower: NodeId, other: NodeId, link: u32) -> u32
+        requires { tower.0 < length self.now.heads }
+        ensures { result
+            ≡ (if tower.0 == other.0 then link else slice_index self.now.heads tower.0) }
+    {
+        if tower.0 == other.0 {
+            link
+        } else {
+            self.heads.get(tower.0 as usize)
+        }
     }
 
     /// The link that begins a tower's list.

@@ -65,11 +65,13 @@ fn add_row(
         return Err(NoMemory);
     }
     roads.push(values)?;
-    let added = links.add_edge(ends, first_point as u32, end_point as u32);
-    if added.is_err() {
-        roads.truncate(links.rows.len());
+    match links.add_edge(ends, first_point as u32, end_point as u32) {
+        Ok(()) => Ok(()),
+        Err(NoMemory) => {
+            roads.truncate(links.rows.len());
+            Err(NoMemory)
+        }
     }
-    added
 }
 
 impl Lists {
@@ -103,11 +105,13 @@ impl Lists {
         ensures err { OnErr result (self.new ≡ self.old) }
     {
         self.places.push(place)?;
-        if self.links.add_tower().is_err() {
-            self.places.pop();
-            return Err(NoMemory);
+        match self.links.add_tower() {
+            Ok(()) => Ok(()),
+            Err(NoMemory) => {
+                self.places.pop();
+                Err(NoMemory)
+            }
         }
-        Ok(())
     }
 
     /// Adds an edge. After `NoMemory` all is as before.
@@ -127,11 +131,13 @@ impl Lists {
         let first = self.points.len();
         self.points.extend_from_slice(between)?;
         let end = self.points.len();
-        let added = add_row(&mut self.links, &mut self.roads, ends, first, end, values);
-        if added.is_err() {
-            self.points.truncate(first);
+        match add_row(&mut self.links, &mut self.roads, ends, first, end, values) {
+            Ok(()) => Ok(()),
+            Err(NoMemory) => {
+                self.points.truncate(first);
+                Err(NoMemory)
+            }
         }
-        added
     }
 
     pub(crate) fn ends(&self, edge: EdgeId) -> EdgeEnds

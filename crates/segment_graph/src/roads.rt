@@ -58,6 +58,16 @@ impl ValueWords {
         put_values(self, edge, values);
         Ok(())
     }
+
+    /// Forgets the values from an edge on.
+    fn truncate(&mut self, count: u32)
+        requires { count ≤ self.old.count }
+        ensures words { self.new.words ≡ take (4 * count) self.old.words }
+        ensures count { self.new.count ≡ count }
+    {
+        self.words.truncate(VALUE_WORDS * count as usize);
+        self.count = count;
+    }
 }
 
 /// The values of each edge, by number. Contracts see their list.
@@ -112,7 +122,6 @@ impl Roads {
         requires { count ≤ length self.old }
         ensures { self.new ≡ take count self.old }
     {
-        self.kept.words.truncate(VALUE_WORDS * count as usize);
-        self.kept.count = count;
+        self.kept.truncate(count);
     }
 }
