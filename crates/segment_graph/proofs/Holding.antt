@@ -69,10 +69,10 @@ road_pushed words more mid new count total values l m t elsewhere forward revers
     ap (roads_of new) t
     ∙ numbered_push (road_of words) (road_of new) count (roads_of words count) values refl
     (λ k b. same_road words new k (λ i few.
-        elsewhere k i (λ e. absurd (omega arith))
-        ∙ (ap (λ (ws : List ℕ). value_word ws k i) m
-        ∙ (word_of_edge (words ++ more) k i few
-        ∙ (get_or_append_left words more 0 (4 * k + i) (omega arith) ∙ sym (word_of_edge words k i few))))))
+    elsewhere k i (λ e. absurd (omega arith))
+    ∙ (ap (λ (ws : List ℕ). value_word ws k i) m
+    ∙ (word_of_edge (words ++ more) k i few
+    ∙ (get_or_append_left words more 0 (4 * k + i) (omega arith) ∙ sym (word_of_edge words k i few))))))
     (λ j. record {
       forward = held (number_of (value_word new count)) false values.forward forward j;
       reverse = held (number_of (value_word new count)) true values.reverse reverse j;
@@ -85,8 +85,8 @@ roads_cut words new count cut total roads is n t l =
     rw (n, t)
     (same_numbered (road_of (take (4 * cut) words)) (road_of words) cut
     (λ k b. same_road words (take (4 * cut) words) k (λ i few.
-        word_of_edge (take (4 * cut) words) k i few
-        ∙ (get_or-take (4 * cut) words (4 * k + i) 0 (omega arith) ∙ sym (word_of_edge words k i few))))
+    word_of_edge (take (4 * cut) words) k i few
+    ∙ (get_or-take (4 * cut) words (4 * k + i) 0 (omega arith) ∙ sym (word_of_edge words k i few))))
     ∙ (sym (take-map-range_with_len (road_of words) 0 count cut (omega (arith, numbered_len (road_of words) count roads is))) ∙ ap (take cut) is))
 
 -- the values of an edge in a direction are those that its words hold

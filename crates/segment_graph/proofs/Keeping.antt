@@ -45,9 +45,9 @@ edges_pushed rows row roads road points more same lines =
     ap (λ (n : ℕ). numbered is n) (length_push rows row)
     ∙ numbered_push was is (length rows) (edges_of rows roads points) (edge_of (points ++ more) row road) refl
     (λ k b.
-        ap (λ (r : EdgeRow). edge_of (points ++ more) r (road_at (roads ++ road ∷ []) k)) (get_or_append_left rows (row ∷ []) no_row k b)
-        ∙ (ap (λ (v : TwoValues). edge_of (points ++ more) (row_at rows k) v) (get_or_append_left roads (road ∷ []) _ k (omega arith))
-        ∙ same_edge points more (row_at rows k) (road_at roads k) (All-get_or (IsLine points) rows k no_row b lines)))
+    ap (λ (r : EdgeRow). edge_of (points ++ more) r (road_at (roads ++ road ∷ []) k)) (get_or_append_left rows (row ∷ []) no_row k b)
+    ∙ (ap (λ (v : TwoValues). edge_of (points ++ more) (row_at rows k) v) (get_or_append_left roads (road ∷ []) _ k (omega arith))
+    ∙ same_edge points more (row_at rows k) (road_at roads k) (All-get_or (IsLine points) rows k no_row b lines)))
     (ap (λ (r : EdgeRow). edge_of (points ++ more) r (road_at (roads ++ road ∷ []) (length rows))) (get_or_push rows row no_row (length rows) refl)
     ∙ ap (λ (v : TwoValues). edge_of (points ++ more) row v) (get_or_push roads road _ (length rows) same))
 
@@ -124,10 +124,12 @@ pub edge_count : (now : Graph) (places : List Point) (rows : List EdgeRow) (road
 edge_count now places rows roads points is =
     sym (ap (λ (g : Graph). length g.edges) is) ∙ length-numbered (λ e. edge_of points (row_at rows e) (road_at roads e)) (length rows)
 
-pub edge_there : (now : Graph) (places : List Point) (rows : List EdgeRow) (roads : List TwoValues) (points : List Point) (edge : ℕ)
-    → graph_of places (edges_of rows roads points) ≡ now → edge < length rows → edge_of points (row_at rows edge) (road_at roads edge) ≡ edge_at now.edges edge
-edge_there now places rows roads points edge is l =
-    sym (get_or-numbered (λ e. edge_of points (row_at rows e) (road_at roads e)) (length rows) edge no_edge l) ∙ ap (λ (g : Graph). edge_at g.edges edge) is
+pub edge_there : (now : Graph) (places : List Point) (rows : List EdgeRow) (roads : List TwoValues) (points : List Point) (edge : ℕ) (row : EdgeRow)
+    → graph_of places (edges_of rows roads points) ≡ now → edge < length now.edges → row ≡ row_at rows edge → edge_of points row (road_at roads edge) ≡ edge_at now.edges edge
+edge_there now places rows roads points edge row is l found =
+    ap (λ (r : EdgeRow). edge_of points r (road_at roads edge)) found
+    ∙ (sym (get_or-numbered (λ e. edge_of points (row_at rows e) (road_at roads e)) (length rows) edge no_edge (omega (arith, edge_count now places rows roads points is)))
+    ∙ ap (λ (g : Graph). edge_at g.edges edge) is)
 
 -- what a tower's link begins is what leaves it
 pub around_there : (now : Graph) (places : List Point) (rows : List EdgeRow) (roads : List TwoValues) (points : List Point) (node link : ℕ)
@@ -140,7 +142,7 @@ around_there now places rows roads points node link is l e =
     ∙ (list_from-link_below (tower_by rows) node (2 * length rows)
     ∙ (same_halves (tower_by rows) (tower_left edges) node (2 * length rows)
     (λ h b. sym (ap (λ (x : Edge). cond {A = ℕ} (eqb (h % 2) 1) x.adjacent.0 x.base.0)
-        (get_or-numbered (λ k. edge_of points (row_at rows k) (road_at roads k)) (length rows) (h / 2) no_edge (omega arith))))
+    (get_or-numbered (λ k. edge_of points (row_at rows k) (road_at roads k)) (length rows) (h / 2) no_edge (omega arith))))
     ∙ (ap (λ (n : ℕ). halves_below (tower_left edges) node (2 * n)) (sym count)
     ∙ (sym (get_or-numbered (leaving edges) (length places) node [] l)
     ∙ ap (λ (g : Graph). around_of g node) is))))

@@ -101,7 +101,7 @@ link_base rows row tower =
 link_both : (rows : List EdgeRow) (row : EdgeRow) (tower : ℕ)
     → link_below (tower_by (rows ++ row ∷ [])) tower (2 * length (rows ++ row ∷ []))
     ≡ cond {A = ℕ} (eqb row.adjacent.0 tower) (suc (suc (2 * length rows)))
-        (cond {A = ℕ} (eqb row.base.0 tower) (suc (2 * length rows)) (link_below (tower_by rows) tower (2 * length rows)))
+    (cond {A = ℕ} (eqb row.base.0 tower) (suc (2 * length rows)) (link_below (tower_by rows) tower (2 * length rows)))
 link_both rows row tower =
     let leaves = tower_by (rows ++ row ∷ []) in
     let n = 2 * length rows in

@@ -51,7 +51,7 @@ length-bytes_with bytes new at value e l =
 -- bytes that come behind leave a word as it was
 same_word : (bytes grown : List ℕ) (at : ℕ) → GrowsByZeros bytes grown → at + 4 ≤ length bytes → u32_at grown at ≡ u32_at bytes at
 same_word bytes grown at e l =
-    let more = replicate (length grown - length bytes) 0 in
+    let more : List ℕ = replicate (length grown - length bytes) 0 in
     let enough : at + 4 - at ≤ length (drop at bytes) = omega (arith, length-drop at bytes) in
     ap (λ (bs : List ℕ). u32_at bs at) e
     ∙ ap (from_le_bytes w32) (ap (take (at + 4 - at)) (drop-append-le at bytes more (omega arith)) ∙ take-append-le (at + 4 - at) (drop at bytes) more enough)

@@ -34,7 +34,8 @@ impl EdgeWords for ValueWords {
     }
 
     fn word(&self, edge: EdgeId, index: u32) -> u32 {
-        self.words.get(VALUE_WORDS * edge.0 as usize + index as usize)
+        self.words
+            .get(VALUE_WORDS * edge.0 as usize + index as usize)
     }
 
     fn set_word(&mut self, edge: EdgeId, index: u32, word: u32) {

@@ -1,8 +1,7 @@
-use Rattle.std.proofs.Common.{◌≡◌, ◌<◌, List, length, ap, ◌∙◌, arith}
+use Rattle.std.proofs.Common.{List, ap, ◌∙◌, arith}
 use Rattle.std.specs.Prelude.{slice_range}
 use Rattle.gh_base.specs.declared.map.Point.{Point}
 use Rattle.base_graph.specs.Graphs.{Edge}
-use Rattle.segment_graph.specs.declared.row.EdgeRow.{EdgeRow}
 use Rattle.segment_graph.proofs.Keeping.{edge_count, edge_there}
 use Rattle.segment_graph.proofs.lists.Lists.between.Goals as goal
 
@@ -12,8 +11,5 @@ get-row-requires c =
 
 pub returns : goal.returns
 returns c =
-    let l : c.args.edge.0 < length c.self.inside.links.rows =
-    omega (arith, c.requires, edge_count c.args.self.now c.self.inside.places.items c.self.inside.links.rows c.self.inside.roads c.self.inside.points.items c.self.view_is) in
     ap (λ (points : List Point). slice_range points c.get-row.result.first_point c.get-row.result.end_point) c.deref.ensures.value
-    ∙ (ap (λ (row : EdgeRow). slice_range c.self.inside.points.items row.first_point row.end_point) c.get-row.ensures
-    ∙ ap (λ (edge : Edge). edge.between) (edge_there c.args.self.now c.self.inside.places.items c.self.inside.links.rows c.self.inside.roads c.self.inside.points.items c.args.edge.0 c.self.view_is l))
+    ∙ ap (λ (edge : Edge). edge.between) (edge_there c.args.self.now c.self.inside.places.items c.self.inside.links.rows c.self.inside.roads c.self.inside.points.items c.args.edge.0 c.get-row.result c.self.view_is c.requires c.get-row.ensures)

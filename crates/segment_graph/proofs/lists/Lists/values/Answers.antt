@@ -1,4 +1,4 @@
-use Rattle.std.proofs.Common.{◌<◌, length, sym, ap, ◌∙◌, subst, arith}
+use Rattle.std.proofs.Common.{refl, sym, ap, ◌∙◌, subst, arith}
 use Rattle.encoded_values.specs.Values.{AreInRange}
 use Rattle.base_graph.specs.Graphs.{Edge, values_along}
 use Rattle.segment_graph.proofs.Keeping.{edge_count, edge_there}
@@ -10,16 +10,11 @@ get-requires-clause-edge c =
 
 pub get-requires-clause-in_range : goal.get-requires-clause-in_range
 get-requires-clause-in_range c =
-    let l : c.args.edge.0 < length c.self.inside.links.rows =
-    omega (arith, c.requires.edge, edge_count c.args.self.now c.self.inside.places.items c.self.inside.links.rows c.self.inside.roads c.self.inside.points.items c.self.view_is) in
-    subst AreInRange (sym (ap (λ (edge : Edge). values_along edge c.args.reverse)
-        (edge_there c.args.self.now c.self.inside.places.items c.self.inside.links.rows c.self.inside.roads c.self.inside.points.items c.args.edge.0 c.self.view_is l)))
-    c.requires.in_range
+    let there = edge_there c.args.self.now c.self.inside.places.items c.self.inside.links.rows c.self.inside.roads c.self.inside.points.items c.args.edge.0 _ c.self.view_is c.requires.edge refl in
+    subst AreInRange (sym (ap (λ (edge : Edge). values_along edge c.args.reverse) there)) c.requires.in_range
 
 pub returns : goal.returns
 returns c =
-    let l : c.args.edge.0 < length c.self.inside.links.rows =
-    omega (arith, c.requires.edge, edge_count c.args.self.now c.self.inside.places.items c.self.inside.links.rows c.self.inside.roads c.self.inside.points.items c.self.view_is) in
     c.get.ensures
     ∙ ap (λ (edge : Edge). values_along edge c.args.reverse)
-    (edge_there c.args.self.now c.self.inside.places.items c.self.inside.links.rows c.self.inside.roads c.self.inside.points.items c.args.edge.0 c.self.view_is l)
+    (edge_there c.args.self.now c.self.inside.places.items c.self.inside.links.rows c.self.inside.roads c.self.inside.points.items c.args.edge.0 _ c.self.view_is c.requires.edge refl)
