@@ -5,7 +5,7 @@ use Rattle.std.proofs.lemmas.List.{get_or_append_left, get_or_push, get_or-set_s
 use Rattle.base_graph.specs.declared.graph.EdgeEnds.{EdgeEnds}
 use Rattle.segment_graph.specs.declared.row.EdgeRow.{EdgeRow}
 use Rattle.segment_graph.specs.Halves.{link_below}
-use Rattle.segment_graph.specs.Rows.{AreLinked, no_row, row_at, tower_by, next_of, linked_row}
+use Rattle.segment_graph.specs.Rows.{AreLinked, no_row, row_at, tower_on, next_on, tower_by, next_of, linked_row}
 use Rattle.segment_graph.proofs.Listing.{link_below-le, same_link, no_link}
 
 pub none_linked : AreLinked [] []
@@ -50,12 +50,6 @@ new_row rows row h e = get_or_push rows row no_row (h / 2) (sym e)
 picked : (rows : List EdgeRow) (row : EdgeRow) (pick : Bool → EdgeRow → ℕ) (h : ℕ) (side : Bool) → h / 2 ≡ length rows → eqb (h % 2) 1 ≡ side
     → pick (eqb (h % 2) 1) (row_at (rows ++ row ∷ []) (h / 2)) ≡ pick side row
 picked rows row pick h side e s = ap (λ (b : Bool). pick b (row_at (rows ++ row ∷ []) (h / 2))) s ∙ ap (pick side) (new_row rows row h e)
-
-abbrev tower_on : Bool → EdgeRow → ℕ
-tower_on side row = cond {A = ℕ} side row.adjacent.0 row.base.0
-
-abbrev pub next_on : Bool → EdgeRow → ℕ
-next_on side row = cond {A = ℕ} side row.next_at_adjacent row.next_at_base
 
 even : (n : ℕ) → eqb (2 * n % 2) 1 ≡ false
 even n = ne_eqb (2 * n % 2) 1 (λ e. absurd (omega arith))
@@ -231,10 +225,3 @@ pub edge_linked_by : (heads : List ℕ) (rows : List EdgeRow) (ends : EdgeEnds) 
 edge_linked_by heads rows ends first_point end_point count row new once twice linked c base adjacent room r n o t =
     rw (t, o, n, r, c) (edge_linked heads rows (linked_row heads (length rows) ends first_point end_point) linked
     (record { base = base; adjacent = adjacent; room = room; at_base = refl; at_adjacent = refl }))
-
--- the link behind a half-edge
-pub next_there : (heads : List ℕ) (rows : List EdgeRow) (half link : ℕ) (side : Bool) (row : EdgeRow) → AreLinked heads rows → half < 2 * length rows
-    → row ≡ row_at rows (half / 2) → eqb (half % 2) 1 ≡ side → link ≡ next_on side row
-    → link ≡ link_below (tower_by rows) (tower_by rows half) half
-next_there heads rows half link side row linked l r s e =
-    e ∙ (ap (next_on side) r ∙ (ap (λ (b : Bool). next_on b (row_at rows (half / 2))) (sym s) ∙ linked.next half l))

@@ -26,6 +26,9 @@ pub numbered_at : {X : Type 0} (f : ℕ → X) (n k : ℕ) (xs : List X) (x d : 
 numbered_at f n k xs x d is l e =
     e ∙ (sym (get_or-numbered f n k d (omega (arith, numbered_len f n xs is))) ∙ ap (λ (ys : List _). get_or ys k d) is)
 
+pub numbered_is : {X : Type 0} (f : ℕ → X) (n k : ℕ) (xs : List X) (d : X) → numbered f n ≡ xs → k < length xs → f k ≡ get_or xs k d
+numbered_is f n k xs d is l = numbered_at f n k xs (f k) d is l refl
+
 pub numbered_push : {X : Type 0} (f g : ℕ → X) (n : ℕ) (xs : List X) (x : X) → numbered f n ≡ xs → ((k : ℕ) → k < n → g k ≡ f k) → g n ≡ x → numbered g (n + 1) ≡ xs ++ x ∷ []
 numbered_push f g n xs x is old new =
     map-range_with_len_more g 0 n n (omega arith)

@@ -1,5 +1,5 @@
 -- The rows of edges, and the links in them. Private: what is promised stands in `Halves.antt`.
-use Rattle.std.specs.Prelude.{◌≡◌, ℕ, ◌+◌, ◌*◌, ◌/◌, ◌%◌, ◌<◌, ◌≤◌, ◌==◌, if◌then◌else◌, List, length, slice_index, slice_index_or}
+use Rattle.std.specs.Prelude.{◌≡◌, ℕ, ◌+◌, ◌*◌, ◌/◌, ◌%◌, ◌<◌, ◌≤◌, ◌==◌, Bool, if◌then◌else◌, List, length, slice_index, slice_index_or}
 use Rattle.base_graph.specs.declared.graph.EdgeEnds.{EdgeEnds}
 use Rattle.segment_graph.specs.declared.row.EdgeRow.{EdgeRow}
 use Rattle.segment_graph.specs.Halves.{numbered, link_below}
@@ -35,14 +35,23 @@ no_row = record {
 abbrev pub row_at : List EdgeRow → ℕ → EdgeRow
 row_at rows edge = slice_index_or rows edge no_row
 
--- the tower that a half-edge leaves, and the link behind it
+-- the ends of an edge, and its length
+abbrev pub ends_of : EdgeRow → EdgeEnds
+ends_of row = record { base = row.base; adjacent = row.adjacent; mm = row.mm }
+
+-- the tower that a half-edge leaves, and the link behind it, by its side
+abbrev pub tower_on : Bool → EdgeRow → ℕ
+tower_on reverse row = if reverse then row.adjacent.0 else row.base.0
+
+abbrev pub next_on : Bool → EdgeRow → ℕ
+next_on reverse row = if reverse then row.next_at_adjacent else row.next_at_base
+
+-- and by its number
 abbrev pub tower_by : List EdgeRow → ℕ → ℕ
-tower_by rows h =
-    if h % 2 == 1 then (row_at rows (h / 2)).adjacent.0 else (row_at rows (h / 2)).base.0
+tower_by rows h = tower_on (h % 2 == 1) (row_at rows (h / 2))
 
 abbrev pub next_of : List EdgeRow → ℕ → ℕ
-next_of rows h =
-    if h % 2 == 1 then (row_at rows (h / 2)).next_at_adjacent else (row_at rows (h / 2)).next_at_base
+next_of rows h = next_on (h % 2 == 1) (row_at rows (h / 2))
 
 -- a tower's head leads to the last half-edge that leaves it, and each link to the one before
 pub record AreLinked (heads : List ℕ) (rows : List EdgeRow) : Type 0 where

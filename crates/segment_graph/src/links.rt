@@ -8,7 +8,7 @@ use crate::row::EdgeRow;
 use crate::rows::EdgeRows;
 use crate::word_list::WordList;
 use base_graph::EdgeEnds;
-use gh_base::{EdgeId, NoMemory, NodeId};
+use gh_base::{NoMemory, NodeId};
 use std::alloc::Global;
 
 /// Rows of edges, and for each tower the link that begins its list, its head.
@@ -115,11 +115,6 @@ impl Links {
         requires { half < 2 * length self.now.rows }
         ensures { result ≡ link_below (tower_by self.now.rows) (tower_by self.now.rows half) half }
     {
-        let row = self.rows.get(EdgeId(half / 2));
-        if half % 2 == 1 {
-            row.next_at_adjacent
-        } else {
-            row.next_at_base
-        }
+        self.rows.next(half)
     }
 }

@@ -146,12 +146,7 @@ impl Lists {
         ensures adjacent { result.adjacent ≡ (edge_at self.now.edges edge.0).adjacent }
         ensures mm { result.mm ≡ (edge_at self.now.edges edge.0).mm }
     {
-        let row = self.links.rows.get(edge);
-        EdgeEnds {
-            base: row.base,
-            adjacent: row.adjacent,
-            mm: row.mm,
-        }
+        self.links.rows.ends(edge)
     }
 
     /// The values of an edge in one direction.
@@ -175,8 +170,8 @@ impl Lists {
         requires { edge.0 < length self.now.edges }
         ensures { result.now ≡ (edge_at self.now.edges edge.0).between }
     {
-        let row = self.links.rows.get(edge);
-        &self.points[row.first_point as usize..row.end_point as usize]
+        let line = self.links.rows.line(edge);
+        &self.points[line.0 as usize..line.1 as usize]
     }
 
     /// What leaves a tower.

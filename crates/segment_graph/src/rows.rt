@@ -1,9 +1,10 @@
 //! The table of rows.
-ghost use Rattle.std.specs.Prelude.{◌≡◌, ◌<◌, ◌≤◌, ◌+◌, ◌*◌, [], ◌∷◌, ◌++◌, length, OnOk, OnErr};
-ghost use Rattle.segment_graph.specs.Rows.{row_at, row_of};
+ghost use Rattle.std.specs.Prelude.{◌≡◌, ◌<◌, ◌≤◌, ◌+◌, ◌*◌, ◌/◌, ◌%◌, ◌==◌, [], ◌∷◌, ◌++◌, length, OnOk, OnErr};
+ghost use Rattle.segment_graph.specs.Rows.{row_at, row_of, ends_of, next_of, next_on};
 
 use crate::row::EdgeRow;
 use crate::word_list::WordList;
+use base_graph::EdgeEnds;
 use gh_base::{EdgeId, NoMemory, NodeId};
 use std::alloc::Global;
 use std::marker::Model;
@@ -50,11 +51,28 @@ impl EdgeRows {
         self.count
     }
 
-    pub fn get(&self, edge: EdgeId) -> EdgeRow
+    pub fn ends(&self, edge: EdgeId) -> EdgeEnds
         requires { edge.0 < length self.now }
-        ensures { result ≡ row_at self.now edge.0 }
+        ensures { result ≡ ends_of (row_at self.now edge.0) }
     {
-        row_in(&self.words, edge.0 as usize)
+        ends_in(&self.words, edge.0 as usize)
+    }
+
+    /// The first point of an edge, and the one behind its last.
+    pub fn line(&self, edge: EdgeId) -> (u32, u32)
+        requires { edge.0 < length self.now }
+        ensures first { result.0 ≡ (row_at self.now edge.0).first_point }
+        ensures end { result.1 ≡ (row_at self.now edge.0).end_point }
+    {
+        line_in(&self.words, edge.0 as usize)
+    }
+
+    /// The link behind a half-edge.
+    pub fn next(&self, half: u32) -> u32
+        requires { half < 2 * length self.now }
+        ensures { result ≡ next_of self.now half }
+    {
+        next_in(&self.words, half as usize)
     }
 
     /// Puts a row behind the others. After `NoMemory` all is as before.
@@ -79,20 +97,34 @@ impl EdgeRows {
     }
 }
 
-/// A row by its number.
-fn row_in(words: &WordList, edge: usize) -> EdgeRow
+fn ends_in(words: &WordList, edge: usize) -> EdgeEnds
     requires inside { 8 * edge + 8 ≤ length words.now }
     requires few { edge < 4000000 }
-    ensures { result ≡ row_of words.now edge }
+    ensures { result ≡ ends_of (row_of words.now edge) }
 {
-    let first = ROW_WORDS * edge;
-    EdgeRow {
-        base: NodeId(words.get(first)),
-        adjacent: NodeId(words.get(first + 1)),
-        mm: words.get(first + 2),
-        next_at_base: words.get(first + 3),
-        next_at_adjacent: words.get(first + 4),
-        first_point: words.get(first + 5),
-        end_point: words.get(first + 6),
+    let row = ROW_WORDS * edge;
+    EdgeEnds {
+        base: NodeId(words.get(row)),
+        adjacent: NodeId(words.get(row + 1)),
+        mm: words.get(row + 2),
     }
+}
+
+fn line_in(words: &WordList, edge: usize) -> (u32, u32)
+    requires inside { 8 * edge + 8 ≤ length words.now }
+    requires few { edge < 4000000 }
+    ensures first { result.0 ≡ (row_of words.now edge).first_point }
+    ensures end { result.1 ≡ (row_of words.now edge).end_point }
+{
+    let row = ROW_WORDS * edge;
+    (words.get(row + 5), words.get(row + 6))
+}
+
+/// The link behind a half-edge. Those of an edge stand side by side, so that no side is asked.
+fn next_in(words: &WordList, half: usize) -> u32
+    requires inside { 8 * (half / 2) + 8 ≤ length words.now }
+    requires few { half < 8000000 }
+    ensures { result ≡ next_on (half % 2 == 1) (row_of words.now (half / 2)) }
+{
+    words.get(ROW_WORDS * (half / 2) + 3 + half % 2)
 }
