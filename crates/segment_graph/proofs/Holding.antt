@@ -1,15 +1,15 @@
 -- Values in words: what is held is what is read, and what was put is what is held.
-use Rattle.std.proofs.Common.{◌≡◌, ◌≢◌, ℕ, ◌+◌, ◌*◌, ◌/◌, ◌%◌, ◌^◌, ◌<◌, ◌≤◌, ◌⊎◌, Bool, true, false, cond, eqb, ltb, List, [], ◌∷◌, ◌++◌, length, get_or, take, inl, inr, refl, sym, ap, ◌∙◌, subst, arith}
+use Rattle.std.proofs.Common.{◌≡◌, ℕ, ◌+◌, ◌*◌, ◌%◌, ◌^◌, ◌<◌, ◌≤◌, Bool, true, false, cond, eqb, List, [], ◌∷◌, ◌++◌, length, get_or, take, inl, inr, refl, sym, ap, ◌∙◌, subst, arith}
 use Rattle.std.specs.Int.{from_bool}
 use Rattle.std.proofs.lemmas.Bool.{cases_eq, eq-eqb, ne_eqb, lt-ltb}
 use Rattle.std.proofs.lemmas.List.{get_or_append_left, get_or-take}
 use Rattle.std.proofs.lemmas.List.FromFn.{take-map-range_with_len}
 use Rattle.encoded_values.specs.Values.{Values, TwoValues, AreInRange}
-use Rattle.value_plan.specs.Slots.{Place, value_of, number_of, ChangesOnly, first_in}
+use Rattle.value_plan.specs.Slots.{value_of, number_of, ChangesOnly}
 use Rattle.value_plan.specs.Road.{HoldsAlong, HoldsSome, shared, for_each}
 use Rattle.value_plan.proofs.OneRoad.{same}
 use Rattle.segment_graph.specs.Roads.{value_word, held_along, road_of, roads_of, road_at, along}
-use Rattle.segment_graph.proofs.Listing.{numbered_at, numbered_len, numbered_push, same_numbered}
+use Rattle.segment_graph.proofs.Listing.{numbered_is, numbered_len, numbered_push, same_numbered}
 
 -- a bit as a flag
 flag : (bit : ℕ) → bit < 2 → bit ≡ from_bool (eqb bit 1)
@@ -94,7 +94,7 @@ pub along_held : (words : List ℕ) (count edge : ℕ) (roads : List TwoValues) 
     → held_along (number_of (value_word words edge)) reverse ≡ along (road_at roads edge) reverse
 along_held words count edge roads reverse is l =
     side (number_of (value_word words edge)) reverse
-    ∙ ap (λ (road : TwoValues). along road reverse) (numbered_at (road_of words) count edge roads (road_of words edge) _ is l refl)
+    ∙ ap (λ (road : TwoValues). along road reverse) (numbered_is (road_of words) count edge roads _ is l)
   where
     side : (number : ℕ) (reverse : Bool) → held_along number reverse ≡ along (record { forward = held_along number false; reverse = held_along number true }) reverse
     side number true = refl

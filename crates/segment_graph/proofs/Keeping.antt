@@ -1,15 +1,15 @@
 -- Edges in tables: one that is read, and one that is put behind the others.
-use Rattle.std.proofs.Common.{◌≡◌, ℕ, ◌+◌, ◌-◌, ◌*◌, ◌/◌, ◌%◌, ◌<◌, ◌≤◌, Bool, cond, eqb, List, [], ◌∷◌, ◌++◌, length, get_or, take, drop, refl, sym, ap, ◌∙◌, subst, arith, length-append, length-drop}
+use Rattle.std.proofs.Common.{◌≡◌, ℕ, ◌+◌, ◌-◌, ◌*◌, ◌/◌, ◌%◌, ◌<◌, ◌≤◌, cond, eqb, List, [], ◌∷◌, ◌++◌, length, take, drop, refl, sym, ap, ◌∙◌, arith, length-append, length-drop}
 use Rattle.std.specs.Prelude.{All, slice_range}
 use Rattle.std.proofs.lemmas.List.{get_or_append_left, get_or_push, length_push, take-append-le, drop-append-le, drop_at, take_all}
 use Rattle.std.proofs.lemmas.List.Elements.{All-push, All-weaker, All-get_or}
 use Rattle.gh_base.specs.declared.map.Point.{Point}
-use Rattle.encoded_values.specs.Values.{TwoValues, Values, AreInRange}
+use Rattle.encoded_values.specs.Values.{TwoValues}
 use Rattle.base_graph.specs.declared.graph.EdgeEnds.{EdgeEnds}
-use Rattle.base_graph.specs.Graphs.{Edge, Graph, edge_at, no_edge, values_along, around_of}
+use Rattle.base_graph.specs.Graphs.{Edge, Graph, edge_at, no_edge, around_of}
 use Rattle.segment_graph.specs.declared.row.EdgeRow.{EdgeRow}
 use Rattle.segment_graph.specs.Halves.{numbered, leaving, halves_below, link_below, list_from, tower_left, graph_of}
-use Rattle.segment_graph.specs.Roads.{road_at, along}
+use Rattle.segment_graph.specs.Roads.{road_at}
 use Rattle.segment_graph.specs.Rows.{row_at, no_row, tower_by, linked_row}
 use Rattle.segment_graph.specs.Kept.{edge_of, edges_of, IsLine, AreKept}
 use Rattle.segment_graph.proofs.Listing.{length-numbered, get_or-numbered, numbered_push, list_from-link_below, same_halves}

@@ -1,12 +1,12 @@
 -- Links stay right as towers and edges are added.
-use Rattle.std.proofs.Common.{◌≡◌, ℕ, zero, suc, ◌+◌, ◌*◌, ◌/◌, ◌%◌, ◌<◌, ◌≤◌, Bool, true, false, cond, eqb, List, [], ◌∷◌, ◌++◌, length, get_or, set, inl, inr, refl, sym, ap, ◌∙◌, subst, arith, length-set, length-append, Result, Ok, Err, OnOk, OnErr}
+use Rattle.std.proofs.Common.{◌≡◌, ℕ, suc, ◌+◌, ◌*◌, ◌/◌, ◌%◌, ◌<◌, ◌≤◌, Bool, true, false, cond, eqb, List, [], ◌∷◌, ◌++◌, length, get_or, set, inl, inr, refl, sym, ap, ◌∙◌, subst, arith, length-set, Result, Ok, Err, OnOk, OnErr}
 use Rattle.std.proofs.lemmas.Bool.{cases_eq, cases_lt, cases_order, eq-eqb, ne_eqb}
 use Rattle.std.proofs.lemmas.List.{get_or_append_left, get_or_push, get_or-set_same, get_or-set_other, length_push}
 use Rattle.base_graph.specs.declared.graph.EdgeEnds.{EdgeEnds}
 use Rattle.segment_graph.specs.declared.row.EdgeRow.{EdgeRow}
 use Rattle.segment_graph.specs.Halves.{link_below}
 use Rattle.segment_graph.specs.Rows.{AreLinked, no_row, row_at, tower_on, next_on, tower_by, next_of, linked_row}
-use Rattle.segment_graph.proofs.Listing.{link_below-le, same_link, no_link}
+use Rattle.segment_graph.proofs.Listing.{same_link, no_link}
 
 pub none_linked : AreLinked [] []
 none_linked = record {

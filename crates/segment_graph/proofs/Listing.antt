@@ -1,5 +1,5 @@
 -- Lists of half-edges: what a link begins, and values by number.
-use Rattle.std.proofs.Common.{◌≡◌, ℕ, zero, suc, ◌+◌, ◌-◌, ◌*◌, ◌<◌, ◌≤◌, Bool, true, false, cond, eqb, List, [], ◌∷◌, ◌++◌, length, get_or, inl, inr, refl, sym, ap, ◌∙◌, arith}
+use Rattle.std.proofs.Common.{◌≡◌, ℕ, zero, suc, ◌+◌, ◌-◌, ◌<◌, ◌≤◌, Bool, true, false, cond, eqb, List, [], ◌∷◌, ◌++◌, length, get_or, inl, inr, refl, sym, ap, ◌∙◌, arith}
 use Rattle.std.proofs.lemmas.Bool.{cases_eq, eq-eqb, ne_eqb}
 use Rattle.std.proofs.lemmas.List.FromFn.{fill_by_all, length-map-range_with_len, get_or-map-range_with_len, map-range_with_len_more}
 use Rattle.gh_base.specs.declared.edges.DirEdge.{DirEdge}
@@ -22,12 +22,9 @@ same_numbered f g n same = by_number f (numbered g n) n (g 0) (length-numbered g
 pub numbered_len : {X : Type 0} (f : ℕ → X) (n : ℕ) (xs : List X) → numbered f n ≡ xs → n ≡ length xs
 numbered_len f n xs is = sym (length-numbered f n) ∙ ap length is
 
-pub numbered_at : {X : Type 0} (f : ℕ → X) (n k : ℕ) (xs : List X) (x d : X) → numbered f n ≡ xs → k < length xs → x ≡ f k → x ≡ get_or xs k d
-numbered_at f n k xs x d is l e =
-    e ∙ (sym (get_or-numbered f n k d (omega (arith, numbered_len f n xs is))) ∙ ap (λ (ys : List _). get_or ys k d) is)
-
 pub numbered_is : {X : Type 0} (f : ℕ → X) (n k : ℕ) (xs : List X) (d : X) → numbered f n ≡ xs → k < length xs → f k ≡ get_or xs k d
-numbered_is f n k xs d is l = numbered_at f n k xs (f k) d is l refl
+numbered_is f n k xs d is l =
+    sym (get_or-numbered f n k d (omega (arith, numbered_len f n xs is))) ∙ ap (λ (ys : List _). get_or ys k d) is
 
 pub numbered_push : {X : Type 0} (f g : ℕ → X) (n : ℕ) (xs : List X) (x : X) → numbered f n ≡ xs → ((k : ℕ) → k < n → g k ≡ f k) → g n ≡ x → numbered g (n + 1) ≡ xs ++ x ∷ []
 numbered_push f g n xs x is old new =

@@ -1,4 +1,3 @@
-use Rattle.std.proofs.Common.{refl}
 use Rattle.segment_graph.proofs.Holding.{road_pushed}
 use Rattle.segment_graph.proofs.roads.ValueWords.push.Goals as goal
 

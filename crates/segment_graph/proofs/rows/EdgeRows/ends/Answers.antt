@@ -1,6 +1,5 @@
-use Rattle.std.proofs.Common.{◌%◌, ◌/◌, ◌<◌, length, eqb, ap, ◌∙◌, arith}
-use Rattle.segment_graph.specs.declared.row.EdgeRow.{EdgeRow}
-use Rattle.segment_graph.specs.Rows.{row_of, no_row, ends_of, next_on}
+use Rattle.std.proofs.Common.{ap, ◌∙◌, arith}
+use Rattle.segment_graph.specs.Rows.{row_of, no_row, ends_of}
 use Rattle.segment_graph.proofs.Listing.{numbered_is, numbered_len}
 use Rattle.segment_graph.proofs.rows.EdgeRows.ends.Goals as goal
 

@@ -1,7 +1,7 @@
-use Rattle.std.proofs.Common.{◌≡◌, ◌++◌, arith}
+use Rattle.std.proofs.Common.{arith}
 use Rattle.segment_graph.specs.Rows.{row_of}
 use Rattle.segment_graph.proofs.Listing.{numbered_len}
-use Rattle.segment_graph.proofs.Rowing.{words_in_row, row_longer, row_pushed}
+use Rattle.segment_graph.proofs.Rowing.{row_longer, row_pushed}
 use Rattle.segment_graph.proofs.rows.EdgeRows.push.Goals as goal
 
 pub invariant_of-self-2 : goal.invariant_of-self-2
