@@ -66,7 +66,7 @@ fn a_value_is_read_across_words_and_in_its_direction(rt: HostRuntime) -> Result<
 }
 
 /// A street of sand that cars may only pass forward, at 50 km/h.
-fn street() -> EdgeValues {
+pub fn street() -> EdgeValues {
     let forward = DirValues {
         road_class: RoadClass::Secondary as u8,
         road_class_link: true,

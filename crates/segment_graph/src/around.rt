@@ -7,7 +7,8 @@ use crate::links::Links;
 use gh_base::{DirEdge, EdgeId};
 use std::marker::Model;
 
-/// The directed edges that start at a tower, one after another. Contracts see the list of those not given yet.
+/// The directed edges that start at a tower, one after another. Contracts see the list of those not
+/// given yet.
 #[derive(Drop)]
 pub struct Around<'a> {
     links: &'a Links,

@@ -17,7 +17,8 @@ const MOST_NODES: usize = 2_000_000;
 /// The greatest number of edges.
 const MOST_EDGES: usize = 4_000_000;
 
-/// Towers and edges by number. Contracts see its `lists`, and know its `facts` of each graph.
+/// Towers and edges by number, kept in segments. Contracts see its `lists`, and know its `facts` of
+/// each graph.
 ///
 /// A way over the towers 0, 1 and back again, with another from 1 to 2:
 ///
@@ -45,9 +46,11 @@ impl SegmentGraph {
     pub fn add_node(&mut self, place: Point) -> Result<NodeId, GraphFault>
         requires { IsOnEarth place }
         ensures node { IfOk result (λ node. node.0 ≡ length self.old.lists.places) }
-        ensures places { OnOk result (self.new.lists.places ≡ self.old.lists.places ++ place ∷ []) }
+        ensures places { OnOk result (self.new.lists.places
+            ≡ self.old.lists.places ++ place ∷ []) }
         ensures edges { self.new.lists.edges ≡ self.old.lists.edges }
-        ensures full { (result ≡ Err GraphFault.TooManyNodes) ↔ (length self.old.lists.places ≡ 2000000) }
+        ensures full { (result ≡ Err GraphFault.TooManyNodes)
+            ↔ (length self.old.lists.places ≡ 2000000) }
         ensures only { result ≢ Err GraphFault.TooManyEdges }
         ensures err { OnErr result (self.new.lists ≡ self.old.lists) }
     {
@@ -72,9 +75,11 @@ impl SegmentGraph {
         requires adjacent { adjacent.0 < length self.old.lists.places }
         requires between { All IsOnEarth between.now }
         ensures edge { IfOk result (λ edge. edge.0 ≡ length self.old.lists.edges) }
-        ensures edges { OnOk result (self.new.lists.edges ≡ self.old.lists.edges ++ (record { base = base; adjacent = adjacent; mm = mm; between = between.now; values = values.now }) ∷ []) }
+        ensures edges { OnOk result (self.new.lists.edges ≡ self.old.lists.edges
+            ++ (record { base = base; adjacent = adjacent; mm = mm; between = between.now; values = values.now }) ∷ []) }
         ensures places { self.new.lists.places ≡ self.old.lists.places }
-        ensures full { (result ≡ Err GraphFault.TooManyEdges) ↔ (length self.old.lists.edges ≡ 4000000) }
+        ensures full { (result ≡ Err GraphFault.TooManyEdges)
+            ↔ (length self.old.lists.edges ≡ 4000000) }
         ensures only { result ≢ Err GraphFault.TooManyNodes }
         ensures err { OnErr result (self.new.lists ≡ self.old.lists) }
     {

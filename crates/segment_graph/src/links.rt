@@ -13,9 +13,11 @@ use std::alloc::Global;
 
 /// Rows of edges, and for each tower the link that begins its list, its head.
 ///
-/// The towers 0, 1 and 2 with edges from 0 to 1, from 1 to 0 and from 1 to 2, as half-edges:
+/// The towers 0, 1 and 2 with edges from 0 to 1, from 1 to 0 and from 1 to 2:
 ///
-///     heads  0: 4    1: 5    2: 6       0 -> 3 (1-) -> 0 (0+)       1 -> 4 (2+) -> 2 (1+) -> 1 (0-)
+///     tower 0   head 4   half-edges 3 (1-) and 0 (0+)
+///     tower 1   head 5   half-edges 4 (2+), 2 (1+) and 1 (0-)
+///     tower 2   head 6   half-edge 5 (2-)
 #[derive(Drop)]
 pub struct Links {
     pub heads: WordList,

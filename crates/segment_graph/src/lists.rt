@@ -101,7 +101,8 @@ impl Lists {
     /// Adds a tower. After `NoMemory` all is as before.
     pub(crate) fn add_place(&mut self, place: Point) -> Result<(), NoMemory>
         requires { length self.old.places < 2000000 }
-        ensures ok { OnOk result (self.new ≡ graph_of (self.old.places ++ place ∷ []) self.old.edges) }
+        ensures ok { OnOk result (self.new
+            ≡ graph_of (self.old.places ++ place ∷ []) self.old.edges) }
         ensures err { OnErr result (self.new ≡ self.old) }
     {
         self.places.push(place)?;
