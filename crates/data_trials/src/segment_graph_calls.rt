@@ -68,9 +68,18 @@ fn small_graph(alloc: Global) -> Result<SegmentGraph, Fail> {
 #[test]
 fn a_loop_edge_leaves_its_tower_twice(rt: HostRuntime) -> Result<(), Fail> {
     let graph = small_graph(rt.alloc())?;
-    assert_eq!(rt; leaving(rt.alloc(), &graph, 0)?.as_slice(), &[0, 3]);
-    assert_eq!(rt; leaving(rt.alloc(), &graph, 1)?.as_slice(), &[1, 2, 4]);
-    assert_eq!(rt; leaving(rt.alloc(), &graph, 2)?.as_slice(), &[5, 6, 7]);
+    assert_eq!(rt;
+        leaving(rt.alloc(), &graph, 0)?.as_slice(),
+        [0, 3].as_slice()
+    );
+    assert_eq!(rt;
+        leaving(rt.alloc(), &graph, 1)?.as_slice(),
+        [1, 2, 4].as_slice()
+    );
+    assert_eq!(rt;
+        leaving(rt.alloc(), &graph, 2)?.as_slice(),
+        [5, 6, 7].as_slice()
+    );
     Ok(())
 }
 

@@ -1,5 +1,5 @@
--- Half-edges: edge e has two, 2e that leaves its base, and 2e + 1 that leaves its adjacent end. A link is the
--- number of a half-edge plus 1; 0 ends a list.
+-- Half-edges: edge e has two, 2e that leaves its base, and 2e + 1 that leaves its adjacent end. A link
+-- is the number of a half-edge plus 1; 0 ends a list.
 use Rattle.std.specs.Prelude.{ℕ, zero, suc, ◌*◌, ◌/◌, ◌%◌, ◌==◌, if◌then◌else◌, List, [], ◌∷◌, length, map}
 use Rattle.std.specs.List.{range_with_len}
 use Rattle.gh_base.specs.declared.edges.DirEdge.{DirEdge}
@@ -14,7 +14,7 @@ numbered value n = map value (range_with_len 0 n)
 abbrev pub half : ℕ → DirEdge
 half h = directed (h / 2) (h % 2 == 1)
 
--- the half-edges below a number that leave a tower, the last first; `leaves h` is the tower that h leaves
+-- the half-edges below a number that leave a tower, the last first; h leaves the tower `leaves h`
 abbrev pub halves_below : (ℕ → ℕ) → ℕ → ℕ → List DirEdge
 halves_below leaves tower zero = []
 halves_below leaves tower (suc h) =
@@ -25,7 +25,7 @@ abbrev pub link_below : (ℕ → ℕ) → ℕ → ℕ → ℕ
 link_below leaves tower zero = 0
 link_below leaves tower (suc h) = if leaves h == tower then suc h else link_below leaves tower h
 
--- the list that a link begins: half-edges that leave the tower that its own leaves, from this one down
+-- the list that a link begins: the half-edges that leave the same tower, from its own down
 abbrev pub list_from : (ℕ → ℕ) → ℕ → List DirEdge
 list_from leaves zero = []
 list_from leaves (suc h) = halves_below leaves (leaves h) (suc h)
@@ -40,4 +40,8 @@ leaving edges tower = halves_below (tower_left edges) tower (2 * length edges)
 
 -- the graph of these places and edges
 abbrev pub graph_of : List Point → List Edge → Graph
-graph_of places edges = record { places = places; edges = edges; around = numbered (leaving edges) (length places) }
+graph_of places edges = record {
+  places = places;
+  edges = edges;
+  around = numbered (leaving edges) (length places);
+}

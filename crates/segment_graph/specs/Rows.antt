@@ -62,8 +62,8 @@ pub record AreLinked (heads : List ℕ) (rows : List EdgeRow) : Type 0 where
   pub next : (h : ℕ) → h < 2 * length rows
       → next_of rows h ≡ link_below (tower_by rows) (tower_by rows h) h
 
--- the row of a new edge: its link at the base is that tower's head, and at the adjacent end that tower's,
--- or at a loop the half-edge that leaves the base
+-- the row of a new edge: its link at each end is that tower's head, but at the adjacent end of a loop
+-- it leads to the half-edge that leaves the base
 abbrev pub linked_row : List ℕ → ℕ → EdgeEnds → ℕ → ℕ → EdgeRow
 linked_row heads count ends first_point end_point = record {
   base = ends.base;

@@ -62,7 +62,8 @@ impl SegmentGraph {
         Ok(NodeId(count as u32))
     }
 
-    /// Adds an edge of `mm` mm, numbered from 0 on, from `base` over the points `between` to `adjacent`.
+    /// Adds an edge of `mm` mm, numbered from 0 on, from `base` over the points `between` to
+    /// `adjacent`.
     pub fn add_edge(
         &mut self,
         base: NodeId,
@@ -76,7 +77,13 @@ impl SegmentGraph {
         requires between { All IsOnEarth between.now }
         ensures edge { IfOk result (λ edge. edge.0 ≡ length self.old.lists.edges) }
         ensures edges { OnOk result (self.new.lists.edges ≡ self.old.lists.edges
-            ++ (record { base = base; adjacent = adjacent; mm = mm; between = between.now; values = values.now }) ∷ []) }
+            ++ (record {
+              base = base;
+              adjacent = adjacent;
+              mm = mm;
+              between = between.now;
+              values = values.now;
+            }) ∷ []) }
         ensures places { self.new.lists.places ≡ self.old.lists.places }
         ensures full { (result ≡ Err GraphFault.TooManyEdges)
             ↔ (length self.old.lists.edges ≡ 4000000) }

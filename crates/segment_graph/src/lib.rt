@@ -1,10 +1,11 @@
 //! The base graph in segments: the calls of `base_graph`, over tables of words that grow by whole
 //! segments and never move.
 //!
-//! Promises what `BaseGraph` does, clause for clause. An edge that is read by a search is one row of
-//! eight words; round each tower half-edges stand in a list of links, in which each link leads to an
-//! older half-edge, so that lists end and a loop edge needs no case. Stands on `data_access` for
-//! words and on `value_plan` for values in words; lists stand in `specs/Halves.antt`.
+//! Promises what `BaseGraph` does, clause for clause. What a search reads of an edge is one row of
+//! eight words; round each tower half-edges stand in a list of links, in which each link leads to
+//! an older half-edge, so that lists end and a loop edge stands in them twice. Stands on
+//! `data_access` for words and on `value_plan` for values in words; lists stand in
+//! `specs/Halves.antt`.
 #![tactic(auto)]
 
 mod around;

@@ -47,8 +47,8 @@ impl Links {
         self.heads.append(&[0])
     }
 
-    /// Adds an edge, whose half-edges then begin the lists of its towers. After `NoMemory` all is as
-    /// before.
+    /// Adds an edge, whose half-edges then begin the lists of its towers. After `NoMemory` all is
+    /// as before.
     pub fn add_edge(
         &mut self,
         ends: EdgeEnds,

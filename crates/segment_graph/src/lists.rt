@@ -14,7 +14,8 @@ use gh_base::{EdgeId, NoMemory, NodeId, Point};
 use std::alloc::Global;
 use std::marker::Model;
 
-/// The greatest number of points between towers, since a row numbers them in a word: they are 32 GB.
+/// The greatest number of points between towers, since a row numbers them in a word. They are
+/// 32 GB, so that more are a want of memory.
 const MOST_POINTS: usize = u32::MAX as usize;
 
 /// Places by number, and edges in tables.
@@ -126,7 +127,13 @@ impl Lists {
         requires base { ends.base.0 < length self.old.places }
         requires adjacent { ends.adjacent.0 < length self.old.places }
         ensures ok { OnOk result (self.new ≡ graph_of self.old.places (self.old.edges
-            ++ (record { base = ends.base; adjacent = ends.adjacent; mm = ends.mm; between = between.now; values = values.now }) ∷ [])) }
+            ++ (record {
+              base = ends.base;
+              adjacent = ends.adjacent;
+              mm = ends.mm;
+              between = between.now;
+              values = values.now;
+            }) ∷ [])) }
         ensures err { OnErr result (self.new ≡ self.old) }
     {
         let first = self.points.len();
