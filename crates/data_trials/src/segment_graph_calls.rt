@@ -55,9 +55,9 @@ const NORTH: Point = Point { lat: 2, lon: 3 };
 /// Three towers: two edges between 0 and 1, one from 1 to 2 and a loop at 2.
 fn small_graph(alloc: Global) -> Result<SegmentGraph, Fail> {
     let mut graph = SegmentGraph::new(alloc)?;
-    for lat in 0..3 {
-        graph.add_node(Point { lat, lon: 5 })?;
-    }
+    graph.add_node(Point { lat: 0, lon: 5 })?;
+    graph.add_node(Point { lat: 1, lon: 5 })?;
+    graph.add_node(Point { lat: 2, lon: 5 })?;
     join(&mut graph, 0, 1, &[])?;
     join(&mut graph, 1, 0, &[NORTH])?;
     join(&mut graph, 1, 2, &[])?;
